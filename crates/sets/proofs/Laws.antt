@@ -1,0 +1,5 @@
+-- All that the crates above cite of sets.
+pub mod Bools
+pub mod Members
+pub mod Searches
+pub mod Counts

@@ -1,0 +1,106 @@
+-- Tests that pass and tests that fail: what `&&`, `||`, `not` and `cond` say of their parts, and how two numbers compare.
+-- Assumes nothing.
+use mathlib.Core.Path.{_≡_, refl, sym, _∙_}
+use mathlib.Core.Bool.{Bool, true, false, cond, not, _&&_, _||_, true≢false}
+use mathlib.Core.Logic.{_⊎_, inl, inr}
+use Prim.Native.Nat.{ℕ, _≤_, _<_}
+use lib.Dec.{eqb, ltb}
+use borrow.Author.Tests.{eqb-true, eqb-false, ltb-true, ltb-false}
+
+-- a test passes or fails, and never both
+pub passes-or-fails : (b : Bool) → (b ≡ true) ⊎ (b ≡ false)
+passes-or-fails true = inl refl
+passes-or-fails false = inr refl
+
+pub clash : (b : Bool) → b ≡ true → b ≡ false → ⊥
+clash b p q = true≢false (sym p ∙ q)
+
+pub fails : (b : Bool) → (b ≡ true → ⊥) → b ≡ false
+fails true h = absurd (h refl)
+fails false h = refl
+
+pub passes : (b : Bool) → (b ≡ false → ⊥) → b ≡ true
+passes true h = refl
+passes false h = absurd (h refl)
+
+-- two numbers compare one way or the other
+pub lt-or-le : (a b : ℕ) → (a < b) ⊎ (b ≤ a)
+lt-or-le a b = go (ltb a b) refl
+  where
+    go : (t : Bool) → ltb a b ≡ t → (a < b) ⊎ (b ≤ a)
+    go true e = inl (ltb-true a b e)
+    go false e = inr (ltb-false a b e)
+
+pub eq-or-ne : (a b : ℕ) → (a ≡ b) ⊎ (a ≡ b → ⊥)
+eq-or-ne a b = go (eqb a b) refl
+  where
+    go : (t : Bool) → eqb a b ≡ t → (a ≡ b) ⊎ (a ≡ b → ⊥)
+    go true e = inl (eqb-true a b e)
+    go false e = inr (eqb-false a b e)
+
+-- two tests that pass together are the same
+pub same-test : (a b : Bool) → (a ≡ true → b ≡ true) → (b ≡ true → a ≡ true) → a ≡ b
+same-test true b f g = sym (f refl)
+same-test false true f g = g refl
+same-test false false f g = refl
+
+pub and-i : (a b : Bool) → a ≡ true → b ≡ true → a && b ≡ true
+and-i true b p q = q
+and-i false b p q = p
+
+pub and-l : (a b : Bool) → a && b ≡ true → a ≡ true
+and-l true b p = refl
+and-l false b p = p
+
+pub and-r : (a b : Bool) → a && b ≡ true → b ≡ true
+and-r true b p = p
+and-r false b p = absurd (true≢false (sym p))
+
+pub and-not-l : (a b : Bool) → a ≡ false → a && b ≡ false
+and-not-l true b p = absurd (true≢false p)
+and-not-l false b p = refl
+
+pub and-not-r : (a b : Bool) → b ≡ false → a && b ≡ false
+and-not-r true b p = p
+and-not-r false b p = refl
+
+pub or-l : (a b : Bool) → a ≡ true → a || b ≡ true
+or-l true b p = refl
+or-l false b p = absurd (true≢false (sym p))
+
+pub or-r : (a b : Bool) → b ≡ true → a || b ≡ true
+or-r true b p = refl
+or-r false b p = p
+
+pub or-cases : (a b : Bool) → a || b ≡ true → (a ≡ true) ⊎ (b ≡ true)
+or-cases true b p = inl refl
+or-cases false b p = inr p
+
+pub or-none : (a b : Bool) → a ≡ false → b ≡ false → a || b ≡ false
+or-none true b p q = absurd (true≢false p)
+or-none false b p q = q
+
+pub or-false-r : (a : Bool) → a || false ≡ a
+or-false-r true = refl
+or-false-r false = refl
+
+pub not-i : (a : Bool) → a ≡ false → not a ≡ true
+not-i true p = sym p
+not-i false p = refl
+
+pub not-o : (a : Bool) → a ≡ true → not a ≡ false
+not-o true p = refl
+not-o false p = sym p
+
+module _ {A : Type 0} where
+  pub cond-true : (b : Bool) (x y : A) → b ≡ true → cond b x y ≡ x
+  cond-true true x y p = refl
+  cond-true false x y p = absurd (true≢false (sym p))
+
+  pub cond-false : (b : Bool) (x y : A) → b ≡ false → cond b x y ≡ y
+  cond-false true x y p = absurd (true≢false p)
+  cond-false false x y p = refl
+
+  pub cond-same : (b : Bool) (x : A) → cond b x x ≡ x
+  cond-same true x = refl
+  cond-same false x = refl

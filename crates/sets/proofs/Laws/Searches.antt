@@ -1,0 +1,273 @@
+-- Searching, counting and listing the ranks below a bound that pass a test: what each finds, by one record or view, so that
+-- no later proof does induction on it. Assumes nothing.
+use mathlib.Core.Path.{_≡_, refl, sym, ap, _∙_}
+use mathlib.Core.Bool.{Bool, true, false, cond, not, _&&_}
+use mathlib.Core.List.{[], _∷_, _++_, append-nil}
+use mathlib.Core.Logic.{_⊎_, inl, inr, ⊎-elim}
+use Prim.Native.Nat.{ℕ, zero, suc, _+_, _≤_, _<_}
+use native.Mathlib.Numerals.{add-one}
+use native.Mathlib.Omega.{arith}
+use lib.Dec.{eqb}
+use lib.ListN.{length, length-append}
+use borrow.Author.Tests.{eq-eqb, ne-eqb, lt-ltb}
+use Rattle.sets.specs.Sets.{has, add, setOf, count, largest, smallest, listed, every}
+use Rattle.sets.proofs.Laws.Bools.{clash, fails, lt-or-le, eq-or-ne, and-i, and-l, and-r, and-not-l}
+use Rattle.sets.proofs.Laws.Members.{has-setOf, has-high, setOf-lt, has-add-other}
+
+-- no rank below n passes
+abbrev pub Nobody : (ℕ → Bool) → ℕ → Type 0
+Nobody f n = (k : ℕ) → k < n → f k ≡ false
+
+-- ---- the largest
+
+pub record Largest (f : ℕ → Bool) (n r : ℕ) : Type 0 where
+  pub within : r < n
+  pub passes : f r ≡ true
+  pub last : (k : ℕ) → r < k → k < n → f k ≡ false
+
+-- what a search for the largest ends with: a rank that is the largest, or the value for "nobody"
+pub data TopOf (f : ℕ → Bool) (n d : ℕ) : ℕ → Type 0 where
+  top : {r : ℕ} → Largest f n r → TopOf f n d r
+  empty : Nobody f n → TopOf f n d d
+
+pub largest-cases : (f : ℕ → Bool) (n d : ℕ) → TopOf f n d (largest f n d)
+unfolding largest
+largest-cases f zero d = empty (λ k h. absurd (omega arith))
+largest-cases f (suc n) d = go (f n) refl (largest f n d) (largest-cases f n d)
+  where
+    wider : (f n ≡ false) → (r : ℕ) → Largest f n r → Largest f (suc n) r
+    wider e r l = record {
+      within = omega (arith, l .within);
+      passes = l .passes;
+      last = λ k a b. ⊎-elim (λ (q : k ≡ n). ap f q ∙ e) (λ (q : k ≡ n → ⊥). l .last k a (omega arith)) (eq-or-ne k n);
+    }
+
+    still : (f n ≡ false) → Nobody f n → Nobody f (suc n)
+    still e h k b = ⊎-elim (λ (q : k ≡ n). ap f q ∙ e) (λ (q : k ≡ n → ⊥). h k (omega arith)) (eq-or-ne k n)
+
+    go : (b : Bool) → f n ≡ b → (r : ℕ) → TopOf f n d r → TopOf f (suc n) d (cond b n r)
+    go true e r v = top {r = n} (record { within = omega arith; passes = e; last = λ k a b. absurd (omega arith) })
+    go false e r (top l) = top (wider e r l)
+    go false e r (empty h) = empty (still e h)
+
+-- there is one largest
+pub largest-is : (f : ℕ → Bool) (n d r : ℕ) → Largest f n r → largest f n d ≡ r
+largest-is f n d r l = go (largest f n d) (largest-cases f n d)
+  where
+    meetAt : (s : ℕ) → Largest f n s → (s < r) ⊎ (r ≤ s) → s ≡ r
+    meetAt s m (inl a) = absurd (clash (f r) (l .passes) (m .last r a (l .within)))
+    meetAt s m (inr a) = ⊎-elim (λ (q : s ≡ r). q) (λ (q : s ≡ r → ⊥). absurd (clash (f s) (m .passes) (l .last s (omega arith) (m .within)))) (eq-or-ne s r)
+
+    go : (s : ℕ) → TopOf f n d s → s ≡ r
+    go s (top m) = meetAt s m (lt-or-le s r)
+    go s (empty h) = absurd (clash (f r) (l .passes) (h r (l .within)))
+
+pub largest-none : (f : ℕ → Bool) (n d : ℕ) → Nobody f n → largest f n d ≡ d
+largest-none f n d h = go (largest f n d) (largest-cases f n d)
+  where
+    go : (s : ℕ) → TopOf f n d s → s ≡ d
+    go s (top m) = absurd (clash (f s) (m .passes) (h s (m .within)))
+    go s (empty _) = refl
+
+-- ---- the smallest
+
+pub record Smallest (f : ℕ → Bool) (n r : ℕ) : Type 0 where
+  pub within : r < n
+  pub passes : f r ≡ true
+  pub first : (k : ℕ) → k < r → f k ≡ false
+
+pub data LeastOf (f : ℕ → Bool) (n d : ℕ) : ℕ → Type 0 where
+  least : {r : ℕ} → Smallest f n r → LeastOf f n d r
+  empty : Nobody f n → LeastOf f n d d
+
+pub smallest-cases : (f : ℕ → Bool) (n d : ℕ) → LeastOf f n d (smallest f n d)
+unfolding smallest
+smallest-cases f zero d = empty (λ k h. absurd (omega arith))
+smallest-cases f (suc n) d = go (smallest-cases f n) (f n) refl
+  where
+    still : f n ≡ false → Nobody f n → Nobody f (suc n)
+    still e h k b = ⊎-elim (λ (q : k ≡ n). ap f q ∙ e) (λ (q : k ≡ n → ⊥). h k (omega arith)) (eq-or-ne k n)
+
+    wide : (e : ℕ) (r : ℕ) → Smallest f n r → LeastOf f (suc n) e r
+    wide e r l = least {r = r} (record { within = omega (arith, l .within); passes = l .passes; first = l .first })
+
+    at : f n ≡ true → (r : ℕ) → LeastOf f n n r → LeastOf f (suc n) d r
+    at e r (least l) = wide d r l
+    at e r (empty h) = least {r = n} (record { within = omega arith; passes = e; first = h })
+
+    past : f n ≡ false → (r : ℕ) → LeastOf f n d r → LeastOf f (suc n) d r
+    past e r (least l) = wide d r l
+    past e r (empty h) = empty (still e h)
+
+    go : ((e : ℕ) → LeastOf f n e (smallest f n e)) → (b : Bool) → f n ≡ b → LeastOf f (suc n) d (smallest f n (cond b n d))
+    go rest true e = at e (smallest f n n) (rest n)
+    go rest false e = past e (smallest f n d) (rest d)
+
+pub smallest-is : (f : ℕ → Bool) (n d r : ℕ) → Smallest f n r → smallest f n d ≡ r
+smallest-is f n d r l = go (smallest f n d) (smallest-cases f n d)
+  where
+    meetAt : (s : ℕ) → Smallest f n s → (s < r) ⊎ (r ≤ s) → s ≡ r
+    meetAt s m (inl a) = absurd (clash (f s) (m .passes) (l .first s a))
+    meetAt s m (inr a) = ⊎-elim (λ (q : s ≡ r). q) (λ (q : s ≡ r → ⊥). absurd (clash (f r) (l .passes) (m .first r (omega arith)))) (eq-or-ne s r)
+
+    go : (s : ℕ) → LeastOf f n d s → s ≡ r
+    go s (least m) = meetAt s m (lt-or-le s r)
+    go s (empty h) = absurd (clash (f r) (l .passes) (h r (l .within)))
+
+pub smallest-none : (f : ℕ → Bool) (n d : ℕ) → Nobody f n → smallest f n d ≡ d
+smallest-none f n d h = go (smallest f n d) (smallest-cases f n d)
+  where
+    go : (s : ℕ) → LeastOf f n d s → s ≡ d
+    go s (least m) = absurd (clash (f s) (m .passes) (h s (m .within)))
+    go s (empty _) = refl
+
+-- ---- the count
+
+pub count-le : (f : ℕ → Bool) (n : ℕ) → count f n ≤ n
+unfolding count
+count-le f zero = omega arith
+count-le f (suc n) = go (f n) (count-le f n)
+  where
+    go : (b : Bool) → count f n ≤ n → cond b (suc (count f n)) (count f n) ≤ suc n
+    go true ih = omega arith
+    go false ih = omega arith
+
+pub count-cong : (f g : ℕ → Bool) (n : ℕ) → ((k : ℕ) → k < n → f k ≡ g k) → count f n ≡ count g n
+unfolding count
+count-cong f g zero h = refl
+count-cong f g (suc n) h = rw (h n (omega arith), count-cong f g n (λ k l. h k (omega arith)))
+
+pub count-none : (f : ℕ → Bool) (n : ℕ) → Nobody f n → count f n ≡ 0
+unfolding count
+count-none f zero h = refl
+count-none f (suc n) h = rw (h n (omega arith)) (count-none f n (λ k l. h k (omega arith)))
+
+-- whoever passes f passes g: no more pass f
+pub count-mono : (f g : ℕ → Bool) (n : ℕ) → ((k : ℕ) → k < n → f k ≡ true → g k ≡ true) → count f n ≤ count g n
+unfolding count
+count-mono f g zero h = omega arith
+count-mono f g (suc n) h = go (f n) (g n) refl refl (count-mono f g n (λ k l. h k (omega arith)))
+  where
+    go : (a b : Bool) → f n ≡ a → g n ≡ b → count f n ≤ count g n → cond a (suc (count f n)) (count f n) ≤ cond b (suc (count g n)) (count g n)
+    go true true p q ih = omega arith
+    go true false p q ih = absurd (clash (g n) (h n (omega arith) p) q)
+    go false true p q ih = omega arith
+    go false false p q ih = ih
+
+-- and one who passes g alone makes it fewer
+pub count-fewer : (f g : ℕ → Bool) (n r : ℕ) → ((k : ℕ) → k < n → f k ≡ true → g k ≡ true) → r < n → f r ≡ false → g r ≡ true → count f n < count g n
+unfolding count
+count-fewer f g zero r h l a b = absurd (omega arith)
+count-fewer f g (suc n) r h l a b = ⊎-elim (λ (q : r ≡ n). here q) (λ (q : r ≡ n → ⊥). there (count-fewer f g n r (λ k s. h k (omega arith)) (omega arith) a b)) (eq-or-ne r n)
+  where
+    rest : count f n ≤ count g n
+    rest = count-mono f g n (λ k s. h k (omega arith))
+
+    here : r ≡ n → cond (f n) (suc (count f n)) (count f n) < cond (g n) (suc (count g n)) (count g n)
+    here q =
+        let p : f n ≡ false = ap f (sym q) ∙ a in
+        let s : g n ≡ true = ap g (sym q) ∙ b in
+        rw (p, s) (omega (arith, rest))
+
+    grow : (x y : Bool) → f n ≡ x → g n ≡ y → count f n < count g n → cond x (suc (count f n)) (count f n) < cond y (suc (count g n)) (count g n)
+    grow true true p q ih = omega arith
+    grow true false p q ih = absurd (clash (g n) (h n (omega arith) p) q)
+    grow false true p q ih = omega arith
+    grow false false p q ih = ih
+
+    there : count f n < count g n → cond (f n) (suc (count f n)) (count f n) < cond (g n) (suc (count g n)) (count g n)
+    there ih = grow (f n) (g n) refl refl ih
+
+-- past a bound that all who pass are below, nothing more is counted
+pub count-wide : (f : ℕ → Bool) (m n : ℕ) → m ≤ n → ((k : ℕ) → m ≤ k → f k ≡ false) → count f n ≡ count f m
+unfolding count
+count-wide f m zero l h = ap (count f) (let e : 0 ≡ m = omega arith in e)
+count-wide f m (suc n) l h = ⊎-elim (λ (q : m ≡ suc n). ap (count f) (sym q)) (λ (q : m ≡ suc n → ⊥). rw (h n (omega arith)) (count-wide f m n (omega arith) h)) (eq-or-ne m (suc n))
+
+-- one rank added makes it one more at most
+pub count-add : (w q n : ℕ) → count (has (add w q)) n ≤ suc (count (has w) n)
+unfolding count
+count-add w q zero = omega arith
+count-add w q (suc n) = ⊎-elim (λ (e : n ≡ q). here e (has (add w q) n) (has w n)) (λ (e : n ≡ q → ⊥). rw (has-add-other w q n e) (there (has w n) (count-add w q n))) (eq-or-ne n q)
+  where
+    here : n ≡ q → (a b : Bool) → cond a (suc (count (has (add w q)) n)) (count (has (add w q)) n) ≤ suc (cond b (suc (count (has w) n)) (count (has w) n))
+    here e a b =
+        let same : count (has (add w q)) n ≡ count (has w) n = count-cong (has (add w q)) (has w) n (λ k l. has-add-other w q k (λ x. omega arith)) in
+        rw same (within a b)
+      where
+        within : (a b : Bool) → cond a (suc (count (has w) n)) (count (has w) n) ≤ suc (cond b (suc (count (has w) n)) (count (has w) n))
+        within true true = omega arith
+        within true false = omega arith
+        within false true = omega arith
+        within false false = omega arith
+
+    there : (b : Bool) → count (has (add w q)) n ≤ suc (count (has w) n) → cond b (suc (count (has (add w q)) n)) (count (has (add w q)) n) ≤ suc (cond b (suc (count (has w) n)) (count (has w) n))
+    there true ih = omega arith
+    there false ih = ih
+
+-- the size of a set of ranks below n, in a word of m digits
+pub count-setOf : (f : ℕ → Bool) (n m : ℕ) → n ≤ m → count (has (setOf f n)) m ≡ count f n
+count-setOf f n m l =
+    count-wide (has (setOf f n)) n m l (λ k h. has-high (setOf f n) n k (setOf-lt f n) h)
+    ∙ count-cong (has (setOf f n)) f n (λ k h. has-setOf f n k ∙ ap (λ (b : Bool). b && f k) (lt-ltb k n h))
+
+-- ---- the list
+
+pub length-listed : (f : ℕ → Bool) (n : ℕ) → length (listed f n) ≡ count f n
+unfolding listed count
+length-listed f zero = refl
+length-listed f (suc n) = length-append (listed f n) (cond (f n) (n ∷ []) []) ∙ go (f n) (length-listed f n)
+  where
+    go : (b : Bool) → length (listed f n) ≡ count f n → length (listed f n) + length (cond b (n ∷ []) []) ≡ cond b (suc (count f n)) (count f n)
+    go true ih = ap (λ (x : ℕ). x + 1) ih ∙ add-one (count f n)
+    go false ih = omega arith
+
+pub listed-cong : (f g : ℕ → Bool) (n : ℕ) → ((k : ℕ) → k < n → f k ≡ g k) → listed f n ≡ listed g n
+unfolding listed
+listed-cong f g zero h = refl
+listed-cong f g (suc n) h = rw (h n (omega arith), listed-cong f g n (λ k l. h k (omega arith)))
+
+pub listed-none : (f : ℕ → Bool) (n : ℕ) → Nobody f n → listed f n ≡ []
+unfolding listed
+listed-none f zero h = refl
+listed-none f (suc n) h = rw (h n (omega arith), append-nil) (listed-none f n (λ k l. h k (omega arith)))
+
+-- the list begins with the smallest, and goes on with the others
+pub listed-cons : (f : ℕ → Bool) (n q : ℕ) → Smallest f n q → listed f n ≡ q ∷ listed (λ k. f k && not (eqb k q)) n
+unfolding listed
+listed-cons f zero q l = absurd (omega (arith, l .within))
+listed-cons f (suc n) q l = ⊎-elim (λ (e : q ≡ n). here e) (λ (e : q ≡ n → ⊥). there e (listed-cons f n q (record { within = omega (arith, l .within); passes = l .passes; first = l .first }))) (eq-or-ne q n)
+  where
+    g : ℕ → Bool
+    g k = f k && not (eqb k q)
+
+    here : q ≡ n → listed f n ++ cond (f n) (n ∷ []) [] ≡ q ∷ (listed (λ k. f k && not (eqb k q)) n ++ cond (f n && not (eqb n q)) (n ∷ []) [])
+    here e =
+        let p : f n ≡ true = ap f (sym e) ∙ l .passes in
+        let s : eqb n q ≡ true = eq-eqb n q (sym e) in
+        let lf : Nobody f n = λ k h. l .first k (omega arith) in
+        rw (p, s, listed-none f n lf, listed-none (λ k. f k && not (eqb k q)) n (λ k h. and-not-l (f k) (not (eqb k q)) (lf k h))) (ap (λ (x : ℕ). x ∷ []) (sym e))
+
+    there : (q ≡ n → ⊥) → listed f n ≡ q ∷ listed (λ k. f k && not (eqb k q)) n → listed f n ++ cond (f n) (n ∷ []) [] ≡ q ∷ (listed (λ k. f k && not (eqb k q)) n ++ cond (f n && not (eqb n q)) (n ∷ []) [])
+    there e ih =
+        let s : eqb n q ≡ false = ne-eqb n q (λ x. e (sym x)) in
+        rw (ih, s) (ap (λ (b : Bool). q ∷ (listed (λ k. f k && not (eqb k q)) n ++ cond b (n ∷ []) [])) (sym (last (f n))))
+      where
+        last : (b : Bool) → b && true ≡ b
+        last true = refl
+        last false = refl
+
+-- ---- every
+
+pub every-at : (f : ℕ → Bool) (n k : ℕ) → every f n ≡ true → k < n → f k ≡ true
+unfolding every
+every-at f zero k h l = absurd (omega arith)
+every-at f (suc n) k h l = ⊎-elim (λ (q : k ≡ n). ap f q ∙ and-r (every f n) (f n) h) (λ (q : k ≡ n → ⊥). every-at f n k (and-l (every f n) (f n) h) (omega arith)) (eq-or-ne k n)
+
+pub every-i : (f : ℕ → Bool) (n : ℕ) → ((k : ℕ) → k < n → f k ≡ true) → every f n ≡ true
+unfolding every
+every-i f zero h = refl
+every-i f (suc n) h = and-i (every f n) (f n) (every-i f n (λ k l. h k (omega arith))) (h n (omega arith))
+
+pub every-not : (f : ℕ → Bool) (n k : ℕ) → k < n → f k ≡ false → every f n ≡ false
+every-not f n k l h = fails (every f n) (λ t. clash (f k) (every-at f n k t l) h)

@@ -1,0 +1,8 @@
+-- All that the crates above cite of the tree.
+pub mod Rows
+pub mod Parents
+pub mod Children
+pub mod Flat
+pub mod Mending
+pub mod Climbing
+pub mod Calls

@@ -1,0 +1,50 @@
+-- `tree::mend_below` meets its contract. The invariant: all below k are marked, the table is fresh, and the sum is theirs.
+-- Assumes nothing.
+use Prim.Native.Nat.{_≤_, _-_}
+use native.Mathlib.Omega.{arith}
+use borrow.Author.Needs.{needs}
+use Rattle.tree.specs.Tree.{flat}
+use Rattle.tree.proofs.Laws.Mending.{Below, below-start, below-step, below-end, below-fits}
+use Rattle.tree.proofs.mend_below.Statement.{statement}
+use Rattle.tree.proofs.mend_below.Tie as tie
+
+abbrev Inv-loop : tie.InvT-loop
+Inv-loop n marks₀ table₀ q moved₀ k₀ marks table moved k = Below flat n marks₀ k marks table moved × (k ≤ q)
+
+abbrev μ-loop : tie.MeasureT-loop
+μ-loop n marks₀ table₀ q moved₀ k₀ marks table moved k = q - k
+
+loop-holds : tie.Need-loop-holds Inv-loop μ-loop
+loop-holds c = search (below-start, needs)
+
+mend-requires : tie.Need-mend-requires Inv-loop μ-loop
+mend-requires c κs = search needs
+
+add-moved : tie.Need-add-moved Inv-loop μ-loop
+add-moved c = search (below-fits, needs)
+
+add-k : tie.Need-add-k Inv-loop μ-loop
+add-k c = search needs
+
+loop-less : tie.Need-loop-less Inv-loop μ-loop
+loop-less c = search needs
+
+loop-again : tie.Need-loop-again Inv-loop μ-loop
+loop-again c = (search below-step, omega arith)
+
+returns : tie.Need-returns Inv-loop μ-loop
+returns c = search below-end
+
+pub mend-below-spec : {M : Type 1} → statement M
+mend-below-spec =
+    tie.close
+    (tie.spec
+    Inv-loop
+    μ-loop
+    loop-holds
+    mend-requires
+    add-moved
+    add-k
+    loop-less
+    loop-again
+    returns)

@@ -1,0 +1,82 @@
+-- What each call on a view answers, over any ancestor sets; document 01, "The tree" and "Refusal numbers".
+use Prim.Native.Nat.{ℕ, zero, suc, _+_}
+use mathlib.Core.Bool.{Bool, true, false, cond, not, _&&_, _||_}
+use mathlib.Core.List.{List, [], _∷_}
+use lib.Dec.{eqb, ltb}
+use Rattle.sets.specs.Sets.{none, has, add, union, meet, minus, below}
+use Rattle.tree.specs.Refusals.{accepted, badSize, notInOrder, badRank, deadRank, tooShort}
+use Rattle.tree.specs.Tree.{fresh, moved, links, reached}
+use Rattle.tree.specs.declared.Mended.{Mended}
+use Rattle.tree.specs.declared.Marked.{Marked}
+use Rattle.tree.specs.declared.Climbed.{Climbed}
+use Rattle.tree.specs.declared.Climbed.the-variants.{Root, Short, WrongSize, WrongRank, FromMarked}
+
+-- A view with q marked, its table, equal to the fresh one, and moved.
+unfoldable pub mended : (ℕ → ℕ) → ℕ → ℕ → ℕ → Mended
+mended anc n marks q = record { marks = add marks q; table = fresh anc n (add marks q); moved = moved anc n marks q }
+
+-- Marking every rank below q, ascending: moved is the sum over the marks.
+unfoldable pub movedBelow : (ℕ → ℕ) → ℕ → ℕ → ℕ → ℕ
+movedBelow anc n marks zero = 0
+movedBelow anc n marks (suc k) = movedBelow anc n marks k + moved anc n (union marks (below k)) k
+
+unfoldable pub mendedBelow : (ℕ → ℕ) → ℕ → ℕ → ℕ → Mended
+mendedBelow anc n marks q =
+    record { marks = union marks (below q); table = fresh anc n (union marks (below q)); moved = movedBelow anc n marks q }
+
+-- Group size is not 1 to 64.
+unfoldable pub wrongSize : ℕ → Bool
+wrongSize n = eqb n 0 || ltb 64 n
+
+-- Two tables are the same, entry by entry.
+unfoldable pub same : List ℕ → List ℕ → Bool
+same [] [] = true
+same [] (y ∷ t) = false
+same (x ∷ s) [] = false
+same (x ∷ s) (y ∷ t) = eqb x y && same s t
+
+-- Marks outside the group, or a table that isn't the fresh one.
+unfoldable pub wrongView : (ℕ → ℕ) → ℕ → ℕ → List ℕ → Bool
+wrongView anc n marks table = not (eqb (minus marks (below n)) 0) || not (same table (fresh anc n marks))
+
+-- Marking takes a view, its table and a rank. A refusal hands back view and table unchanged with moved 0; even the last
+-- unmarked rank may be marked.
+unfoldable pub markRefused : ℕ → ℕ → List ℕ → Marked
+markRefused number marks table = record { answer = number; marks = marks; table = table; moved = 0 }
+
+unfoldable pub marked : (ℕ → ℕ) → ℕ → ℕ → List ℕ → ℕ → Marked
+marked anc n marks table q =
+    cond (wrongSize n) (markRefused badSize marks table)
+    (cond (wrongView anc n marks table) (markRefused notInOrder marks table)
+    (cond (not (ltb q n)) (markRefused badRank marks table)
+    (record { answer = accepted; marks = add marks q; table = fresh anc n (add marks q); moved = moved anc n marks q })))
+
+-- A climb answers a number, a rank and a count of links.
+pub record Told : Type 0 where
+  pub number : ℕ
+  pub rank : ℕ
+  pub climbed : ℕ
+
+-- Document 01's number, rank and links for each answer.
+unfoldable pub told : Climbed → Told
+told (Root r k) = record { number = accepted; rank = r; climbed = k }
+told (Short r k) = record { number = tooShort; rank = r; climbed = k }
+told WrongSize = record { number = badSize; rank = none; climbed = 0 }
+told WrongRank = record { number = badRank; rank = none; climbed = 0 }
+told (FromMarked r) = record { number = deadRank; rank = r; climbed = 0 }
+
+-- A climb asks for the root above an unmarked rank with an allowance of links. It answers the root and the links climbed, or
+-- refusal 12 with the rank reached and the allowance used up, exactly when more links are needed. Marks at n and above are
+-- ignored; refusals 1 and 4 answer rank 255 and 0 links, 6 the rank asked and 0 links.
+unfoldable pub climbing : (ℕ → ℕ) → ℕ → ℕ → ℕ → Told
+climbing anc view p allowance =
+    cond (ltb allowance (links anc view p))
+    (record { number = tooShort; rank = reached anc view p allowance; climbed = allowance })
+    (record { number = accepted; rank = reached anc view p (links anc view p); climbed = links anc view p })
+
+unfoldable pub climbed : (ℕ → ℕ) → ℕ → ℕ → ℕ → ℕ → Told
+climbed anc n marks p allowance =
+    cond (wrongSize n) (record { number = badSize; rank = none; climbed = 0 })
+    (cond (not (ltb p n)) (record { number = badRank; rank = none; climbed = 0 })
+    (cond (has (meet marks (below n)) p) (record { number = deadRank; rank = p; climbed = 0 })
+    (climbing anc (meet marks (below n)) p allowance)))

@@ -1,0 +1,5 @@
+pub mod Refusals
+pub mod Tree
+pub mod Relations
+pub mod Calls
+pub mod Examples

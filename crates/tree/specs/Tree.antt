@@ -1,0 +1,69 @@
+-- The tree. A view is the set of ranks marked dead, in a group of n ranks numbered 0 to n - 1.
+-- Everything is said over any ancestor sets `anc`, a word for each rank; the flat tree is one instance.
+use Prim.Native.Nat.{ℕ, zero, suc, _/_, _^_}
+use mathlib.Core.Bool.{Bool, cond, not, _&&_}
+use mathlib.Core.List.{List, [], _∷_, _++_}
+use lib.Dec.{eqb, ltb}
+use lib.ListN.{length, getD}
+use Rattle.sets.specs.Sets.{none, has, add, setOf, count, largest, smallest}
+
+-- The ancestors of p are floor(p/2^i) for i from 1, up to and including 0; rank 0 has none.
+-- So p > 0 has p / 2 and the ancestors of p / 2. The first number bounds how often p is halved; p itself is enough.
+unfoldable pub halvings : ℕ → ℕ → ℕ
+halvings zero p = 0
+halvings (suc d) zero = 0
+halvings (suc d) (suc p) = add (halvings d (suc p / 2)) (suc p / 2)
+
+unfoldable pub flat : ℕ → ℕ
+flat p = halvings p p
+
+-- The parent of p, marked or not: the largest unmarked ancestor, if there is one; else the smallest unmarked rank below p,
+-- if there is one; else none, written 255.
+unfoldable pub parent : (ℕ → ℕ) → ℕ → ℕ → ℕ
+parent anc marks p = largest (λ a. has (anc p) a && not (has marks a)) p (smallest (λ a. not (has marks a)) p none)
+
+-- The children of p are the unmarked ranks whose parent is p.
+unfoldable pub children : (ℕ → ℕ) → ℕ → ℕ → ℕ → ℕ
+children anc n marks p = setOf (λ c. not (has marks c) && eqb (parent anc marks c) p) n
+
+-- A table of n entries, the value of f at each place.
+unfoldable pub row : (ℕ → ℕ) → ℕ → List ℕ
+row f zero = []
+row f (suc n) = row f n ++ (f n ∷ [])
+
+-- Each rank holds the whole table for its own view: 64 parent numbers; entries at n and above hold 255.
+unfoldable pub entry : (ℕ → ℕ) → ℕ → ℕ → ℕ → ℕ
+entry anc n marks p = cond (ltb p n) (parent anc marks p) none
+
+unfoldable pub fresh : (ℕ → ℕ) → ℕ → ℕ → List ℕ
+fresh anc n marks = row (entry anc n marks) 64
+
+-- "Moved" counts the unmarked ranks whose entry changed, after the mark. Entries of marked ranks that pointed at the newly
+-- marked one move too but are not counted.
+unfoldable pub moves : (ℕ → ℕ) → ℕ → ℕ → ℕ → Bool
+moves anc marks q p = not (has (add marks q) p) && not (eqb (parent anc (add marks q) p) (parent anc marks p))
+
+unfoldable pub moved : (ℕ → ℕ) → ℕ → ℕ → ℕ → ℕ
+moved anc n marks q = count (moves anc marks q) n
+
+-- The path from p to its root: the ranks above p, link by link. The first number bounds the links; p's own number is enough,
+-- as each parent is smaller.
+unfoldable pub upwards : (ℕ → ℕ) → ℕ → ℕ → ℕ → List ℕ
+upwards anc marks zero p = []
+upwards anc marks (suc d) p =
+    let rest = parent anc marks p ∷ upwards anc marks d (parent anc marks p) in
+    cond (eqb (parent anc marks p) none) [] rest
+
+unfoldable pub path : (ℕ → ℕ) → ℕ → ℕ → List ℕ
+path anc marks p = upwards anc marks p p
+
+-- How many links lead from p to its root, and the rank that is reached after k of them.
+unfoldable pub links : (ℕ → ℕ) → ℕ → ℕ → ℕ
+links anc marks p = length (path anc marks p)
+
+unfoldable pub reached : (ℕ → ℕ) → ℕ → ℕ → ℕ → ℕ
+reached anc marks p k = getD (p ∷ path anc marks p) k none
+
+-- The number of binary digits of p, rank 0 counting as none: the least d with p below 2 ^ d.
+unfoldable pub digits : ℕ → ℕ
+digits p = smallest (λ d. ltb p (2 ^ d)) (suc p) p

@@ -1,0 +1,301 @@
+// Views of the tree: who is whose parent once some ranks are marked dead, and the table of parents, mended at each mark.
+// Entry points for callers are mark and climb; they refuse bad input and require nothing.
+ghost use mathlib.Core.Path.{_≡_};
+ghost use Prim.Native.Nat.{_<_, _≤_};
+ghost use Rattle.tree.specs.Tree.{children, flat, fresh, parent};
+ghost use Rattle.tree.specs.Calls.{climbed, marked, mended, mendedBelow, markRefused, climbing, same, told, wrongSize};
+
+const ANCESTORS: [u64; 64] = [
+    0x0,
+    0x1,
+    0x3,
+    0x3,
+    0x7,
+    0x7,
+    0xb,
+    0xb,
+    0x17,
+    0x17,
+    0x27,
+    0x27,
+    0x4b,
+    0x4b,
+    0x8b,
+    0x8b,
+    0x117,
+    0x117,
+    0x217,
+    0x217,
+    0x427,
+    0x427,
+    0x827,
+    0x827,
+    0x104b,
+    0x104b,
+    0x204b,
+    0x204b,
+    0x408b,
+    0x408b,
+    0x808b,
+    0x808b,
+    0x10117,
+    0x10117,
+    0x20117,
+    0x20117,
+    0x40217,
+    0x40217,
+    0x80217,
+    0x80217,
+    0x100427,
+    0x100427,
+    0x200427,
+    0x200427,
+    0x400827,
+    0x400827,
+    0x800827,
+    0x800827,
+    0x100104b,
+    0x100104b,
+    0x200104b,
+    0x200104b,
+    0x400204b,
+    0x400204b,
+    0x800204b,
+    0x800204b,
+    0x1000408b,
+    0x1000408b,
+    0x2000408b,
+    0x2000408b,
+    0x4000808b,
+    0x4000808b,
+    0x8000808b,
+    0x8000808b,
+];
+
+// A view with its table, and how many unmarked ranks the last marking moved.
+pub struct Mended {
+    pub marks: u64,
+    pub table: [u8; 64],
+    pub moved: u32,
+}
+
+// The answer of mark: a refusal number, or 0 with the new view, its table and moved.
+pub struct Marked {
+    pub answer: u32,
+    pub marks: u64,
+    pub table: [u8; 64],
+    pub moved: u32,
+}
+
+// The answer of climb: the root or the rank reached, with the links climbed; or why nothing was climbed.
+pub enum Climbed {
+    Root(u8, u32),
+    Short(u8, u32),
+    WrongSize,
+    WrongRank,
+    FromMarked(u8),
+}
+
+// The ancestor set of p.
+pub fn ancestors(p: u8) -> u64
+    requires { ⌜ p < 64 ⌝ }
+    ensures { λ r. ⌜ r ≡ flat p ⌝ }
+{
+    ANCESTORS[p as usize]
+}
+
+// The parent of p: the nearest unmarked ancestor, else the lowest unmarked rank below p, else NONE.
+pub fn parent_of(marks: u64, p: u8) -> u8
+    requires { ⌜ p < 64 ⌝ }
+    ensures { λ r. ⌜ r ≡ parent flat marks p ⌝ }
+{
+    let near = sets::minus(ancestors(p), marks);
+    if near != 0 {
+        return sets::largest(near);
+    }
+    sets::smallest(sets::minus(sets::below(p), marks))
+}
+
+// The whole table of a view, worked out from nothing.
+pub fn fresh(n: u8, marks: u64) -> [u8; 64]
+    requires { ⌜ n ≤ 64 ⌝ }
+    ensures { λ r. ⌜ r ≡ fresh flat n marks ⌝ }
+{
+    let mut table = [sets::NONE; 64];
+    let mut p: u8 = 0;
+    while p < n {
+        table[p as usize] = parent_of(marks, p);
+        p += 1;
+    }
+    table
+}
+
+// The children of p, read off the table.
+pub fn children_of(n: u8, marks: u64, table: [u8; 64], p: u8) -> u64
+    requires { ⌜ n ≤ 64 ⌝ }
+    requires { ⌜ table ≡ fresh flat n marks ⌝ }
+    ensures { λ r. ⌜ r ≡ children flat n marks p ⌝ }
+{
+    let mut pointing: u64 = 0;
+    let mut c: u8 = 0;
+    while c < n {
+        if table[c as usize] == p {
+            pointing = sets::with(pointing, c);
+        }
+        c += 1;
+    }
+    sets::minus(pointing, marks)
+}
+
+// Marks q and mends the table: only entries that pointed at q are worked out anew.
+pub fn mend(n: u8, marks: u64, mut table: [u8; 64], q: u8) -> Mended
+    requires { ⌜ n ≤ 64 ⌝ }
+    requires { ⌜ q < n ⌝ }
+    requires { ⌜ table ≡ fresh flat n marks ⌝ }
+    ensures { λ r. ⌜ r ≡ mended flat n marks q ⌝ }
+{
+    if sets::member(marks, q) {
+        return Mended {
+            marks,
+            table,
+            moved: 0,
+        };
+    }
+    let after = sets::with(marks, q);
+    let mut changed: u64 = 0;
+    let mut p: u8 = 0;
+    while p < n {
+        if table[p as usize] == q {
+            table[p as usize] = parent_of(after, p);
+            changed = sets::with(changed, p);
+        }
+        p += 1;
+    }
+    let moved = sets::size(sets::minus(changed, after)) as u32;
+    Mended {
+        marks: after,
+        table,
+        moved,
+    }
+}
+
+// Marks every rank below q, ascending; moved is the sum.
+pub fn mend_below(n: u8, mut marks: u64, mut table: [u8; 64], q: u8) -> Mended
+    requires { ⌜ n ≤ 64 ⌝ }
+    requires { ⌜ q ≤ n ⌝ }
+    requires { ⌜ table ≡ fresh flat n marks ⌝ }
+    ensures { λ r. ⌜ r ≡ mendedBelow flat n marks q ⌝ }
+{
+    let mut moved: u32 = 0;
+    let mut k: u8 = 0;
+    while k < q {
+        let next = mend(n, marks, table, k);
+        marks = next.marks;
+        table = next.table;
+        moved += next.moved;
+        k += 1;
+    }
+    Mended {
+        marks,
+        table,
+        moved,
+    }
+}
+
+// Whether a group size is not 1 to 64.
+pub fn wrong_size(n: u32) -> bool
+    ensures { λ r. ⌜ r ≡ wrongSize n ⌝ }
+{
+    (n == 0) | (64 < n)
+}
+
+// Whether two tables are the same.
+pub fn same(a: [u8; 64], b: [u8; 64]) -> bool
+    ensures { λ r. ⌜ r ≡ same a b ⌝ }
+{
+    let mut p: usize = 0;
+    while p < 64 {
+        if a[p] != b[p] {
+            return false;
+        }
+        p += 1;
+    }
+    true
+}
+
+// A refused mark hands back what it was given.
+fn mark_refused(answer: u32, marks: u64, table: [u8; 64]) -> Marked
+    ensures { λ r. ⌜ r ≡ markRefused answer marks table ⌝ }
+{
+    Marked {
+        answer,
+        marks,
+        table,
+        moved: 0,
+    }
+}
+
+// Entry point: marks q in a view of n ranks. Refuses with 1, 2 or 4.
+pub fn mark(n: u32, marks: u64, table: [u8; 64], q: u32) -> Marked
+    ensures { λ r. ⌜ r ≡ marked flat n marks table q ⌝ }
+{
+    if wrong_size(n) {
+        return mark_refused(1, marks, table);
+    }
+    let size = n as u8;
+    if sets::minus(marks, sets::below(size)) != 0 {
+        return mark_refused(2, marks, table);
+    }
+    if !same(table, fresh(size, marks)) {
+        return mark_refused(2, marks, table);
+    }
+    if n <= q {
+        return mark_refused(4, marks, table);
+    }
+    let m = mend(size, marks, table, q as u8);
+    let mended = m.table;
+    Marked {
+        answer: 0,
+        marks: m.marks,
+        table: mended,
+        moved: m.moved,
+    }
+}
+
+// Climbs from an unmarked rank, at most `allowance` links.
+fn climb_from(marks: u64, p: u8, allowance: u32) -> Climbed
+    requires { ⌜ p < 64 ⌝ }
+    ensures { λ r. ⌜ told r ≡ climbing flat marks p allowance ⌝ }
+{
+    let mut at = p;
+    let mut links: u32 = 0;
+    loop {
+        let up = parent_of(marks, at);
+        if up == sets::NONE {
+            return Climbed::Root(at, links);
+        }
+        if links == allowance {
+            return Climbed::Short(at, links);
+        }
+        at = up;
+        links += 1;
+    }
+}
+
+// Entry point: the root above a rank. Refuses with 1, 4, 6 or 12; marks at n and above are ignored.
+pub fn climb(n: u32, marks: u64, p: u32, allowance: u32) -> Climbed
+    ensures { λ r. ⌜ told r ≡ climbed flat n marks p allowance ⌝ }
+{
+    if wrong_size(n) {
+        return Climbed::WrongSize;
+    }
+    if n <= p {
+        return Climbed::WrongRank;
+    }
+    let view = sets::meet(marks, sets::below(n as u8));
+    let from = p as u8;
+    if sets::member(view, from) {
+        return Climbed::FromMarked(from);
+    }
+    climb_from(view, from, allowance)
+}
