@@ -67,3 +67,8 @@ listed f (suc n) = listed f n ++ cond (f n) (n ∷ []) []
 unfoldable pub every : (ℕ → Bool) → ℕ → Bool
 every f zero = true
 every f (suc n) = every f n && f n
+
+-- Every test of the list passes.
+unfoldable pub all : List Bool → Bool
+all [] = true
+all (b ∷ bs) = b && all bs

@@ -1,7 +1,7 @@
 // Sets of ranks as 64-bit words, one bit a rank. Smallest, largest and size come from the processor's own bit counts.
 ghost use mathlib.Core.Path.{_≡_};
 ghost use Prim.Native.Nat.{_<_, _≤_};
-ghost use Rattle.sets.specs.Sets.{add, below, count, has, largest, meet, minus, none, smallest, union};
+ghost use Rattle.sets.specs.Sets.{add, below, count, has, largest, meet, minus, none, only, smallest, union};
 
 // No rank.
 pub const NONE: u8 = 255;
@@ -12,6 +12,14 @@ pub fn member(w: u64, p: u8) -> bool
     ensures { λ r. ⌜ r ≡ has w p ⌝ }
 {
     (w >> p) % 2 == 1
+}
+
+// The set of p alone.
+pub fn only(p: u8) -> u64
+    requires { ⌜ p < 64 ⌝ }
+    ensures { λ r. ⌜ r ≡ only p ⌝ }
+{
+    1u64 << p
 }
 
 // The set with p added.

@@ -1,6 +1,6 @@
 -- Document 01, "Examples on both sides": those of the tree that are to be proved, as one list of tests.
 use Prim.Native.Nat.{ℕ}
-use mathlib.Core.Bool.{Bool, true, _&&_}
+use mathlib.Core.Bool.{Bool, _&&_}
 use mathlib.Core.List.{List, [], _∷_, _++_}
 use lib.Dec.{eqb}
 use lib.ListN.{replicate}
@@ -53,8 +53,3 @@ examples =
     ∷ tells (climbed flat 64 0 63 6) 0 0 6
     ∷ tells (climbed flat 64 0 63 5) 12 1 5
     ∷ []
-
--- every test of the list passes
-unfoldable pub all : List Bool → Bool
-all [] = true
-all (b ∷ bs) = b && all bs

@@ -2,9 +2,11 @@
 -- Assumes nothing.
 use mathlib.Core.Path.{_≡_, refl, sym, _∙_}
 use mathlib.Core.Bool.{Bool, true, false, cond, not, _&&_, _||_, true≢false}
+use mathlib.Core.List.{List, [], _∷_}
 use mathlib.Core.Logic.{_⊎_, inl, inr}
 use Prim.Native.Nat.{ℕ, _≤_, _<_}
 use lib.Dec.{eqb, ltb}
+use Rattle.sets.specs.Sets.{all}
 use borrow.Author.Tests.{eqb-true, eqb-false, ltb-true, ltb-false}
 
 -- a test passes or fails, and never both
@@ -104,3 +106,30 @@ module _ {A : Type 0} where
   pub cond-same : (b : Bool) (x : A) → cond b x x ≡ x
   cond-same true x = refl
   cond-same false x = refl
+
+-- ---- a list of tests
+
+pub all-head : (b : Bool) (bs : List Bool) → all (b ∷ bs) ≡ true → b ≡ true
+unfolding all
+all-head b bs e = and-l b (all bs) e
+
+pub all-tail : (b : Bool) (bs : List Bool) → all (b ∷ bs) ≡ true → all bs ≡ true
+unfolding all
+all-tail b bs e = and-r b (all bs) e
+
+pub all-nil : all [] ≡ true
+unfolding all
+all-nil = refl
+
+pub all-cons : (b : Bool) (bs : List Bool) → b ≡ true → all bs ≡ true → all (b ∷ bs) ≡ true
+unfolding all
+all-cons b bs p q = and-i b (all bs) p q
+
+-- `not a || b`: a means b
+pub means : (a b : Bool) → not a || b ≡ true → a ≡ true → b ≡ true
+means true b e p = e
+means false b e p = absurd (true≢false (sym p))
+
+pub meant : (a b : Bool) → (a ≡ true → b ≡ true) → not a || b ≡ true
+meant true b h = h refl
+meant false b h = refl

@@ -362,3 +362,20 @@ minus-setOf f n w = ext (minus (setOf f n) w) (setOf (λ k. not (has w k) && f k
     swap true false true = refl
     swap true false false = refl
     swap false b c = refl
+
+-- one more member taken away
+pub minus-minus : (a b p : ℕ) → minus (minus a b) (only p) ≡ minus a (add b p)
+minus-minus a b p = ext (minus (minus a b) (only p)) (minus a (add b p)) (λ k. same k)
+  where
+    move : (x y z : Bool) → x && not y && not z ≡ x && not (y || z)
+    move true true z = refl
+    move true false z = refl
+    move false y z = refl
+
+    same : (k : ℕ) → has (minus (minus a b) (only p)) k ≡ has (minus a (add b p)) k
+    same k =
+        has-minus (minus a b) (only p) k ∙ ap₂ (λ (x y : Bool). x && not y) (has-minus a b k) (has-only p k)
+        ∙ move (has a k) (has b k) (eqb k p) ∙ sym (has-minus a (add b p) k ∙ ap (λ (x : Bool). has a k && not x) (has-add b p k))
+
+pub minus-none : (a : ℕ) → minus a 0 ≡ a
+minus-none a = ext (minus a 0) a (λ k. has-minus a 0 k ∙ ap (λ (x : Bool). has a k && not x) (has-zero k) ∙ and-true-r (has a k))

@@ -8,7 +8,8 @@ use Prim.Native.Nat.{ℕ, zero, suc, _+_, _≤_, _<_}
 use native.Mathlib.Numerals.{add-one}
 use native.Mathlib.Omega.{arith}
 use lib.Dec.{eqb}
-use lib.ListN.{length, length-append}
+use lib.ListN.{length, getD, length-append, List·getD-append}
+use lib.Seq.{getD-append-add}
 use borrow.Author.Tests.{eq-eqb, ne-eqb, lt-ltb}
 use Rattle.sets.specs.Sets.{has, add, setOf, count, largest, smallest, listed, every}
 use Rattle.sets.proofs.Laws.Bools.{clash, fails, lt-or-le, eq-or-ne, and-i, and-l, and-r, and-not-l}
@@ -231,6 +232,43 @@ pub listed-none : (f : ℕ → Bool) (n : ℕ) → Nobody f n → listed f n ≡
 unfolding listed
 listed-none f zero h = refl
 listed-none f (suc n) h = rw (h n (omega arith), append-nil) (listed-none f n (λ k l. h k (omega arith)))
+
+-- who is listed passes and is below n
+pub listed-passes : (f : ℕ → Bool) (n i d : ℕ) → i < length (listed f n) → (getD (listed f n) i d < n) × (f (getD (listed f n) i d) ≡ true)
+unfolding listed
+listed-passes f zero i d l = absurd (omega arith)
+listed-passes f (suc n) i d l = go (f n) refl (listed-passes f n i d) (lt-or-le i (length (listed f n))) l
+  where
+    go : (b : Bool) → f n ≡ b → (i < length (listed f n) → (getD (listed f n) i d < n) × (f (getD (listed f n) i d) ≡ true)) → (i < length (listed f n)) ⊎ (length (listed f n) ≤ i) → i < length (listed f n ++ cond b (n ∷ []) [])
+        → (getD (listed f n ++ cond b (n ∷ []) []) i d < suc n) × (f (getD (listed f n ++ cond b (n ∷ []) []) i d) ≡ true)
+    go b e ih (inl h) m =
+        let same : getD (listed f n ++ cond b (n ∷ []) []) i d ≡ getD (listed f n) i d = List·getD-append (listed f n) (cond b (n ∷ []) []) d i h in
+        let was : (getD (listed f n) i d < n) × (f (getD (listed f n) i d) ≡ true) = ih h in
+        (omega (arith, was .0), ap f same ∙ was .1)
+    go true e ih (inr h) m =
+        let at : i ≡ length (listed f n) + 0 = omega (arith, length-append (listed f n) (n ∷ [])) in
+        let same : getD (listed f n ++ (n ∷ [])) i d ≡ n = ap (λ (x : ℕ). getD (listed f n ++ (n ∷ [])) x d) at ∙ getD-append-add (listed f n) (n ∷ []) 0 d in
+        (omega arith, ap f same ∙ e)
+    go false e ih (inr h) m = absurd (omega (arith, length-append (listed f n) []))
+
+-- and later ones are larger
+pub listed-ascends : (f : ℕ → Bool) (n i j d : ℕ) → i < j → j < length (listed f n) → getD (listed f n) i d < getD (listed f n) j d
+unfolding listed
+listed-ascends f zero i j d l h = absurd (omega arith)
+listed-ascends f (suc n) i j d l h = go (f n) (listed-ascends f n i j d l) (lt-or-le j (length (listed f n))) h
+  where
+    early : (b : Bool) (k : ℕ) → k < length (listed f n) → getD (listed f n ++ cond b (n ∷ []) []) k d ≡ getD (listed f n) k d
+    early b k m = List·getD-append (listed f n) (cond b (n ∷ []) []) d k m
+
+    go : (b : Bool) → (j < length (listed f n) → getD (listed f n) i d < getD (listed f n) j d) → (j < length (listed f n)) ⊎ (length (listed f n) ≤ j) → j < length (listed f n ++ cond b (n ∷ []) [])
+        → getD (listed f n ++ cond b (n ∷ []) []) i d < getD (listed f n ++ cond b (n ∷ []) []) j d
+    go b ih (inl m) k = omega (arith, early b i (omega arith), early b j m, ih m)
+    go true ih (inr m) k =
+        let at : j ≡ length (listed f n) + 0 = omega (arith, length-append (listed f n) (n ∷ [])) in
+        let same : getD (listed f n ++ (n ∷ [])) j d ≡ n = ap (λ (x : ℕ). getD (listed f n ++ (n ∷ [])) x d) at ∙ getD-append-add (listed f n) (n ∷ []) 0 d in
+        let before : i < length (listed f n) = omega arith in
+        omega (arith, early true i before, listed-passes f n i d before .0)
+    go false ih (inr m) k = absurd (omega (arith, length-append (listed f n) []))
 
 -- the list begins with the smallest, and goes on with the others
 pub listed-cons : (f : ℕ → Bool) (n q : ℕ) → Smallest f n q → listed f n ≡ q ∷ listed (λ k. f k && not (eqb k q)) n

@@ -36,6 +36,12 @@ child-i anc n marks p c k =
     setOf-has (λ c. not (has marks c) && eqb (parent anc marks c) p) n c (k .within)
     (and-i (not (has marks c)) (eqb (parent anc marks c) p) (not-i (has marks c) (k .free)) (eq-eqb (parent anc marks c) p (k .linked)))
 
+-- whether an unmarked rank is a child, read off its link
+pub child-test : (anc : ℕ → ℕ) (n marks p c : ℕ) → c < n → Free marks c → has (children anc n marks p) c ≡ eqb (parent anc marks c) p
+child-test anc n marks p c l f =
+    same-test (has (children anc n marks p) c) (eqb (parent anc marks c) p) (λ t. eq-eqb (parent anc marks c) p (child-o anc n marks p c t .linked))
+    (λ t. child-i anc n marks p c (record { within = l; free = f; linked = eqb-true (parent anc marks c) p t }))
+
 -- two views with the same children of p
 pub children-same : (anc : ℕ → ℕ) (n m m′ p : ℕ) → ((c : ℕ) → Child anc n m p c → Child anc n m′ p c) → ((c : ℕ) → Child anc n m′ p c → Child anc n m p c)
     → children anc n m p ≡ children anc n m′ p

@@ -1,0 +1,6 @@
+-- All that the crates above cite of a rank.
+pub mod Acting
+pub mod Cases
+pub mod Keeping
+pub mod Ordering
+pub mod Letters

@@ -1,0 +1,279 @@
+-- The rules along their code: each test on the way picks the definition's case. A value is a variable with an equation, so that a
+-- method's proof names the law alone. Assumes nothing.
+use mathlib.Core.Path.{_≡_, refl, sym, ap, _∙_}
+use mathlib.Core.Bool.{Bool, true, false, cond, _&&_, _||_}
+use mathlib.Core.List.{List}
+use Prim.Native.Nat.{ℕ, _<_}
+use native.Mathlib.Omega.{arith}
+use lib.Dec.{eqb}
+use lib.ListN.{getD}
+use borrow.Author.Tests.{eq-eqb, ne-eqb}
+use Rattle.sets.specs.Sets.{none, has, only, add, union, meet, minus}
+use Rattle.sets.proofs.Laws.Bools.{and-not-l, and-not-r}
+use Rattle.tree.specs.Tree.{parent, children, fresh, moved}
+use Rattle.tree.specs.Calls.{mended, mendedBelow}
+use Rattle.tree.specs.declared.Mended.{Mended}
+use Rattle.tree.proofs.Laws.Rows.{fresh-at}
+use Rattle.tree.proofs.Laws.Parents.{parent-lt}
+use Rattle.tree.proofs.Laws.Children.{child-test}
+use Rattle.sets.proofs.Laws.Members.{minus-minus, minus-none}
+use Rattle.rank.specs.declared.Rank.{Rank}
+use Rattle.rank.specs.declared.Send.{Send}
+use Rattle.rank.specs.declared.Said.{Said}
+use Rattle.rank.specs.declared.Acted.{Acted}
+use Rattle.rank.specs.Words.{gathering, waiting, decided, combine}
+use Rattle.rank.specs.Records.{becoming, combining, concluding, owing, parentOf, childrenOf, awaiting, hearing, viewing}
+use Rattle.rank.specs.Sends.{silent, reports, tells, asks}
+use Rattle.rank.specs.Rules.{inPhase, saying, deciding, settled, done, settling, entering, raised, takingUp, lowered, takingDown, asked, takingAsk, orphaned, inheriting, bereaved, noticing}
+use Rattle.rank.specs.Order.{Kept}
+
+module _ (anc : ℕ → ℕ) where
+  -- ---- the row is the table of the rank's own view
+
+  pub kept-parent : (n me : ℕ) (r : Rank) (row : List ℕ) → Kept anc n me r row → getD row me 0 ≡ parentOf anc me r
+  unfolding parentOf
+  kept-parent n me r row k = ap (λ (t : List ℕ). getD t me 0) (k .table) ∙ fresh-at anc n (r .marks) me (k .size) (k .own)
+
+  pub kept-child : (n me : ℕ) (r : Rank) (row : List ℕ) (q : ℕ) → Kept anc n me r row → q < n → getD row q 0 ≡ parent anc (r .marks) q
+  kept-child n me r row q k l = ap (λ (t : List ℕ). getD t q 0) (k .table) ∙ fresh-at anc n (r .marks) q (k .size) l
+
+  -- a parent that is not none is a rank
+  pub kept-parent-lt : (n me : ℕ) (r : Rank) (row : List ℕ) → Kept anc n me r row → (getD row me 0 ≡ none → ⊥) → getD row me 0 < 64
+  unfolding parentOf
+  kept-parent-lt n me r row k h =
+      let e : getD row me 0 ≡ parent anc (r .marks) me = kept-parent n me r row k in
+      let l : parent anc (r .marks) me < me = parent-lt anc (r .marks) me (λ x. h (e ∙ x)) in
+      omega (arith, k .size, k .own)
+
+  -- ---- settle
+
+  settled-not : (n me : ℕ) (r : Rank) → inPhase gathering r && eqb (r .awaited) 0 ≡ false → settled anc n me r ≡ saying r silent
+  unfolding settled
+  settled-not n me r e = rw e
+
+  pub settled-other : (n me : ℕ) (r : Rank) → (r .phase ≡ gathering → ⊥) → settled anc n me r ≡ saying r silent
+  unfolding inPhase
+  settled-other n me r h = settled-not n me r (and-not-l (inPhase gathering r) (eqb (r .awaited) 0) (ne-eqb (r .phase) gathering h))
+
+  pub settled-awaits : (n me : ℕ) (r : Rank) → (r .awaited ≡ 0 → ⊥) → settled anc n me r ≡ saying r silent
+  settled-awaits n me r h = settled-not n me r (and-not-r (inPhase gathering r) (eqb (r .awaited) 0) (ne-eqb (r .awaited) 0 h))
+
+  pub settled-root : (n me : ℕ) (r : Rank) → r .phase ≡ gathering → r .awaited ≡ 0 → parentOf anc me r ≡ none → settled anc n me r ≡ deciding anc n me (r .word) r
+  unfolding settled inPhase
+  settled-root n me r p a e = rw (eq-eqb (r .phase) gathering p, eq-eqb (r .awaited) 0 a, eq-eqb (parentOf anc me r) none e)
+
+  pub settled-child : (n me : ℕ) (r : Rank) → r .phase ≡ gathering → r .awaited ≡ 0 → (parentOf anc me r ≡ none → ⊥)
+      → settled anc n me r ≡ saying (becoming waiting r) (reports r (parentOf anc me r))
+  unfolding settled inPhase
+  settled-child n me r p a e = rw (eq-eqb (r .phase) gathering p, eq-eqb (r .awaited) 0 a, ne-eqb (parentOf anc me r) none e)
+
+  settling-by : (n me : ℕ) (r : Rank) (row : List ℕ) (first : Send) (m : ℕ) (t : Said) → settled anc n me r ≡ t → row ≡ fresh anc n (t .rank .marks)
+      → _≡_ {A = Acted} (record { rank = t .rank; row = row; first = first; second = t .send; moved = m }) (settling anc n me (saying r first) m)
+  unfolding settling saying
+  settling-by n me r row first m t e f = rw (e, f)
+
+  settle-still : (n me : ℕ) (r : Rank) (row : List ℕ) (first s : Send) (m : ℕ) → Kept anc n me r row → settled anc n me r ≡ saying r silent → s ≡ silent
+      → _≡_ {A = Acted} (record { rank = r; row = row; first = first; second = s; moved = m }) (settling anc n me (saying r first) m)
+  unfolding saying
+  settle-still n me r row first s m k e f = rw f (settling-by n me r row first m (saying r silent) e (k .table))
+
+  pub settle-other : (n me : ℕ) (r : Rank) (row : List ℕ) (first s : Send) (m : ℕ) → Kept anc n me r row → (r .phase ≡ gathering → ⊥) → s ≡ silent
+      → _≡_ {A = Acted} (record { rank = r; row = row; first = first; second = s; moved = m }) (settling anc n me (saying r first) m)
+  settle-other n me r row first s m k h f = settle-still n me r row first s m k (settled-other n me r h) f
+
+  pub settle-awaits : (n me : ℕ) (r : Rank) (row : List ℕ) (first s : Send) (m : ℕ) → Kept anc n me r row → (r .awaited ≡ 0 → ⊥) → s ≡ silent
+      → _≡_ {A = Acted} (record { rank = r; row = row; first = first; second = s; moved = m }) (settling anc n me (saying r first) m)
+  settle-awaits n me r row first s m k h f = settle-still n me r row first s m k (settled-awaits n me r h) f
+
+  pub settle-root : (n me : ℕ) (r : Rank) (row : List ℕ) (first : Send) (m : ℕ) (d : Said) → Kept anc n me r row → r .phase ≡ gathering → r .awaited ≡ 0 → getD row me 0 ≡ none
+      → d ≡ deciding anc n me (r .word) r
+      → _≡_ {A = Acted} (record { rank = d .rank; row = row; first = first; second = d .send; moved = m }) (settling anc n me (saying r first) m)
+  unfolding deciding saying concluding
+  settle-root n me r row first m d k p a z e =
+      settling-by n me r row first m d (settled-root n me r p a (sym (kept-parent n me r row k) ∙ z) ∙ sym e)
+      (k .table ∙ ap (λ (x : Said). fresh anc n (x .rank .marks)) (sym e))
+
+  pub settle-child : (n me : ℕ) (r : Rank) (row : List ℕ) (first s : Send) (m : ℕ) → Kept anc n me r row → r .phase ≡ gathering → r .awaited ≡ 0 → (getD row me 0 ≡ none → ⊥)
+      → s ≡ reports r (getD row me 0)
+      → _≡_ {A = Acted} (record { rank = becoming waiting r; row = row; first = first; second = s; moved = m }) (settling anc n me (saying r first) m)
+  unfolding saying becoming
+  settle-child n me r row first s m k p a z e =
+      let q : getD row me 0 ≡ parentOf anc me r = kept-parent n me r row k in
+      rw (e, q) (settling-by n me r row first m (saying (becoming waiting r) (reports r (parentOf anc me r))) (settled-child n me r p a (λ x. z (q ∙ x))) (k .table))
+
+  -- ---- the rules
+
+  pub enter-returns : (n me : ℕ) (r : Rank) (w x : ℕ) (s : Send) (a : Acted) → x ≡ combine (r .word) w → s ≡ silent
+      → a ≡ settling anc n me (saying (record { phase = gathering; marks = r .marks; heard = r .heard; awaited = r .awaited; owed = r .owed; word = x; result = r .result }) s) 0
+      → a ≡ entering anc n me w r
+  unfolding entering becoming combining
+  enter-returns n me r w x s a e f g = g ∙ rw (e, f)
+
+  pub up-decided : (n me : ℕ) (r : Rank) (q x o : ℕ) (s : Send) (a : Acted) → r .phase ≡ decided → o ≡ only q → s ≡ tells (r .result) o → a ≡ settling anc n me (saying r s) 0
+      → a ≡ takingUp anc n me q x r
+  unfolding takingUp raised inPhase
+  up-decided n me r q x o s a p e f g = g ∙ rw (eq-eqb (r .phase) decided p, f, e)
+
+  -- q joins heard: one fewer is awaited
+  fewer-awaited : (n me : ℕ) (r : Rank) (q : ℕ) → r .awaited ≡ awaiting anc n me (r .marks) (r .heard) → minus (r .awaited) (only q) ≡ awaiting anc n me (r .marks) (add (r .heard) q)
+  unfolding awaiting
+  fewer-awaited n me r q e = ap (λ (w : ℕ). minus w (only q)) e ∙ minus-minus (children anc n (r .marks) me) (r .heard) q
+
+  pub up-undecided : (n me : ℕ) (r : Rank) (q x h o w y : ℕ) (s : Send) (a : Acted) → r .awaited ≡ awaiting anc n me (r .marks) (r .heard) → (r .phase ≡ decided → ⊥)
+      → h ≡ add (r .heard) q → o ≡ only q → w ≡ minus (r .awaited) o → y ≡ combine (r .word) x → s ≡ silent
+      → a ≡ settling anc n me (saying (record { phase = r .phase; marks = r .marks; heard = h; awaited = w; owed = r .owed; word = y; result = r .result }) s) 0
+      → a ≡ takingUp anc n me q x r
+  unfolding takingUp raised inPhase combining hearing
+  up-undecided n me r q x h o w y s a f p eh eo ew ey es g =
+      let e : w ≡ awaiting anc n me (r .marks) (add (r .heard) q) = ew ∙ ap (minus (r .awaited)) eo ∙ fewer-awaited n me r q f in
+      g ∙ rw (ne-eqb (r .phase) decided p, eh, e, ey, es)
+
+  pub decide-returns : (n me : ℕ) (r : Rank) (row : List ℕ) (x c u t : ℕ) (s : Send) → c ≡ children anc n (r .marks) me → u ≡ union c (r .owed) → t ≡ minus u (r .marks) → s ≡ tells x t
+      → _≡_ {A = Said} (record { rank = record { phase = decided; marks = r .marks; heard = r .heard; awaited = r .awaited; owed = r .owed; word = r .word; result = x }; send = s }) (deciding anc n me x r)
+  unfolding deciding saying concluding childrenOf
+  decide-returns n me r row x c u t s ec eu et es = rw (es, et, eu, ec)
+
+  pub down-decides : (n me : ℕ) (r : Rank) (row : List ℕ) (x : ℕ) (d : Said) (s : Send) → Kept anc n me r row → eqb (r .phase) gathering || eqb (r .phase) waiting ≡ true → d ≡ deciding anc n me x r → s ≡ silent
+      → _≡_ {A = Acted} (record { rank = d .rank; row = row; first = d .send; second = s; moved = 0 }) (takingDown anc n me x r)
+  unfolding takingDown lowered inPhase done deciding saying concluding
+  down-decides n me r row x d s k t e f = rw (t, e, f, k .table)
+
+  pub down-nothing : (n me : ℕ) (r : Rank) (row : List ℕ) (x : ℕ) (s s′ : Send) → Kept anc n me r row → eqb (r .phase) gathering || eqb (r .phase) waiting ≡ false → s ≡ silent → s′ ≡ silent
+      → _≡_ {A = Acted} (record { rank = r; row = row; first = s; second = s′; moved = 0 }) (takingDown anc n me x r)
+  unfolding takingDown lowered inPhase done saying
+  down-nothing n me r row x s s′ k t e f = rw (t, e, f, k .table)
+
+  -- ---- a new view
+
+  pub awaited-is : (n me marks heard c w : ℕ) → c ≡ children anc n marks me → w ≡ minus c heard → w ≡ awaiting anc n me marks heard
+  unfolding awaiting
+  awaited-is n me marks heard c w e f = f ∙ ap (λ (x : ℕ). minus x heard) e
+
+  pub view-returns : (n me : ℕ) (r : Rank) (m c w : ℕ) → c ≡ children anc n m me → w ≡ minus c (r .heard)
+      → _≡_ {A = Rank} (record { phase = r .phase; marks = m; heard = r .heard; awaited = w; owed = r .owed; word = r .word; result = r .result }) (viewing anc n me m r)
+  unfolding viewing awaiting
+  view-returns n me r m c w e f = rw (f, e)
+
+  pub kept-mended : (n me q : ℕ) (r : Rank) (row : List ℕ) (m : Mended) → Kept anc n me r row → m ≡ mended anc n (r .marks) q → Kept anc n me (viewing anc n me (m .marks) r) (m .table)
+  unfolding viewing mended
+  kept-mended n me q r row m k e = record { size = k .size; own = k .own; table = rw e }
+
+  pub kept-below : (n me q : ℕ) (r : Rank) (row : List ℕ) (m : Mended) → Kept anc n me r row → m ≡ mendedBelow anc n (r .marks) q → Kept anc n me (viewing anc n me (m .marks) r) (m .table)
+  unfolding viewing mendedBelow
+  kept-below n me q r row m k e = record { size = k .size; own = k .own; table = rw e }
+
+  pub kept-seen : (n me q : ℕ) (r v : Rank) (row : List ℕ) (m : Mended) → Kept anc n me r row → m ≡ mended anc n (r .marks) q → v ≡ viewing anc n me (m .marks) r → Kept anc n me v (m .table)
+  kept-seen n me q r v row m k e f = rw f (kept-mended n me q r row m k e)
+
+  pub kept-seen-below : (n me q : ℕ) (r v : Rank) (row : List ℕ) (m : Mended) → Kept anc n me r row → m ≡ mendedBelow anc n (r .marks) q → v ≡ viewing anc n me (m .marks) r → Kept anc n me v (m .table)
+  kept-seen-below n me q r v row m k e f = rw f (kept-below n me q r row m k e)
+
+  kept-said : (n me : ℕ) (r : Rank) (row : List ℕ) (s : Said) → Kept anc n me r row → s .rank .marks ≡ r .marks → Kept anc n me (s .rank) row
+  kept-said n me r row s k e = record { size = k .size; own = k .own; table = rw e (k .table) }
+
+  -- ---- ASK
+
+  pub asked-decided : (n me q : ℕ) (r : Rank) (o : ℕ) (s : Send) → r .phase ≡ decided → o ≡ only q → s ≡ tells (r .result) o → _≡_ {A = Said} (record { rank = r; send = s }) (asked anc n me q r)
+  unfolding asked inPhase saying
+  asked-decided n me q r o s p e f = rw (eq-eqb (r .phase) decided p, f, e)
+
+  pub asked-waiting : (n me q : ℕ) (r : Rank) (row : List ℕ) (o : ℕ) (s : Send) → Kept anc n me r row → (r .phase ≡ decided → ⊥) → o ≡ add (r .owed) q → eqb (r .phase) waiting && eqb (getD row me 0) q ≡ true
+      → s ≡ reports (record { phase = r .phase; marks = r .marks; heard = r .heard; awaited = r .awaited; owed = o; word = r .word; result = r .result }) q
+      → _≡_ {A = Said} (record { rank = record { phase = r .phase; marks = r .marks; heard = r .heard; awaited = r .awaited; owed = o; word = r .word; result = r .result }; send = s }) (asked anc n me q r)
+  unfolding asked inPhase saying owing reports
+  asked-waiting n me q r row o s k p e t f =
+      let u : eqb (r .phase) waiting && eqb (parentOf anc me r) q ≡ true = ap (λ (x : ℕ). eqb (r .phase) waiting && eqb x q) (sym (kept-parent n me r row k)) ∙ t in
+      rw (ne-eqb (r .phase) decided p, u, f, e)
+
+  pub asked-other : (n me q : ℕ) (r : Rank) (row : List ℕ) (o : ℕ) (s : Send) → Kept anc n me r row → (r .phase ≡ decided → ⊥) → o ≡ add (r .owed) q → eqb (r .phase) waiting && eqb (getD row me 0) q ≡ false
+      → s ≡ silent
+      → _≡_ {A = Said} (record { rank = record { phase = r .phase; marks = r .marks; heard = r .heard; awaited = r .awaited; owed = o; word = r .word; result = r .result }; send = s }) (asked anc n me q r)
+  unfolding asked inPhase saying owing
+  asked-other n me q r row o s k p e t f =
+      let u : eqb (r .phase) waiting && eqb (parentOf anc me r) q ≡ false = ap (λ (x : ℕ). eqb (r .phase) waiting && eqb x q) (sym (kept-parent n me r row k)) ∙ t in
+      rw (ne-eqb (r .phase) decided p, u, f, e)
+
+  -- the view is left alone
+  asked-marks : (n me q : ℕ) (r : Rank) → asked anc n me q r .rank .marks ≡ r .marks
+  unfolding asked saying owing
+  asked-marks n me q r = go (inPhase decided r) (inPhase waiting r && eqb (parentOf anc me r) q)
+    where
+      go : (a b : Bool) → cond a (saying r (tells (r .result) (only q))) (cond b (saying (owing q r) (reports r q)) (saying (owing q r) silent)) .rank .marks ≡ r .marks
+      go true b = refl
+      go false true = refl
+      go false false = refl
+
+  pub kept-asked : (n me q : ℕ) (r : Rank) (row : List ℕ) (s : Said) → Kept anc n me r row → s ≡ asked anc n me q r → Kept anc n me (s .rank) row
+  kept-asked n me q r row s k e = kept-said n me r row s k (ap (λ (x : Said). x .rank .marks) e ∙ asked-marks n me q r)
+
+  pub ask-returns : (n me q : ℕ) (r v : Rank) (m : Mended) (s : Said) (a : Acted) → m ≡ mendedBelow anc n (r .marks) q → v ≡ viewing anc n me (m .marks) r → s ≡ asked anc n me q v
+      → a ≡ settling anc n me (saying (s .rank) (s .send)) (m .moved) → a ≡ takingAsk anc n me q r
+  unfolding takingAsk saying mendedBelow
+  ask-returns n me q r v m s a em ev es ea = ea ∙ rw (es, ev, em)
+
+  -- ---- notice
+
+  pub orphan-reports : (n me : ℕ) (r : Rank) (row : List ℕ) (s : Send) → Kept anc n me r row → (getD row me 0 ≡ none → ⊥) → s ≡ reports r (getD row me 0) → _≡_ {A = Said} (record { rank = r; send = s }) (orphaned anc n me r)
+  unfolding orphaned saying
+  orphan-reports n me r row s k h e =
+      let q : getD row me 0 ≡ parentOf anc me r = kept-parent n me r row k in
+      rw (e, q, ne-eqb (parentOf anc me r) none (λ x. h (q ∙ x)))
+
+  pub orphan-gathers : (n me : ℕ) (r : Rank) (row : List ℕ) (c : ℕ) (s : Send) → Kept anc n me r row → getD row me 0 ≡ none → c ≡ children anc n (r .marks) me → s ≡ asks c
+      → _≡_ {A = Said} (record { rank = record { phase = gathering; marks = r .marks; heard = 0; awaited = c; owed = r .owed; word = r .word; result = r .result }; send = s }) (orphaned anc n me r)
+  unfolding orphaned saying becoming hearing awaiting childrenOf
+  orphan-gathers n me r row c s k h e f =
+      let z : parentOf anc me r ≡ none = sym (kept-parent n me r row k) ∙ h in
+      rw (eq-eqb (parentOf anc me r) none z, f, e, minus-none (children anc n (r .marks) me))
+
+  -- the tests of a death, read off the row
+  was-parent : (n me q : ℕ) (r : Rank) (row : List ℕ) (b : Bool) → Kept anc n me r row → eqb (r .phase) waiting && eqb (getD row me 0) q ≡ b → inPhase waiting r && eqb (parentOf anc me r) q ≡ b
+  unfolding inPhase
+  was-parent n me q r row b k t = ap (λ (x : ℕ). eqb (r .phase) waiting && eqb x q) (sym (kept-parent n me r row k)) ∙ t
+
+  was-child : (n me q : ℕ) (r : Rank) (row : List ℕ) (b : Bool) → Kept anc n me r row → q < n → has (r .marks) q ≡ false
+      → eqb (r .phase) gathering && eqb (getD row me 0) none && eqb (getD row q 0) me ≡ b → inPhase gathering r && eqb (parentOf anc me r) none && has (childrenOf anc n me r) q ≡ b
+  unfolding inPhase childrenOf
+  was-child n me q r row b k l f t =
+      ap (λ (x : ℕ). eqb (r .phase) gathering && eqb x none && has (children anc n (r .marks) me) q) (sym (kept-parent n me r row k))
+      ∙ ap (λ (x : Bool). eqb (r .phase) gathering && eqb (getD row me 0) none && x) (child-test anc n (r .marks) me q l f ∙ ap (λ (x : ℕ). eqb x me) (sym (kept-child n me r row q k l)))
+      ∙ t
+
+  pub bereave-orphan : (n me q : ℕ) (r v : Rank) (row : List ℕ) (s : Said) → Kept anc n me r row → eqb (r .phase) waiting && eqb (getD row me 0) q ≡ true → s ≡ orphaned anc n me v → s ≡ bereaved anc n me q r v
+  unfolding bereaved
+  bereave-orphan n me q r v row s k t e = e ∙ rw (was-parent n me q r row true k t)
+
+  pub bereave-inherits : (n me q : ℕ) (r v : Rank) (row : List ℕ) (c d g : ℕ) (s : Send) → Kept anc n me r row → q < n → has (r .marks) q ≡ false → eqb (r .phase) waiting && eqb (getD row me 0) q ≡ false
+      → eqb (r .phase) gathering && eqb (getD row me 0) none && eqb (getD row q 0) me ≡ true
+      → c ≡ children anc n (v .marks) me → d ≡ children anc n (r .marks) q → g ≡ meet c d → s ≡ asks g → _≡_ {A = Said} (record { rank = v; send = s }) (bereaved anc n me q r v)
+  unfolding bereaved inheriting saying childrenOf
+  bereave-inherits n me q r v row c d g s k l f t u ec ed eg es = rw (was-parent n me q r row false k t, was-child n me q r row true k l f u, es, eg, ec, ed)
+
+  pub bereave-other : (n me q : ℕ) (r v : Rank) (row : List ℕ) (s : Send) → Kept anc n me r row → q < n → has (r .marks) q ≡ false → eqb (r .phase) waiting && eqb (getD row me 0) q ≡ false
+      → eqb (r .phase) gathering && eqb (getD row me 0) none && eqb (getD row q 0) me ≡ false → s ≡ silent → _≡_ {A = Said} (record { rank = v; send = s }) (bereaved anc n me q r v)
+  unfolding bereaved saying
+  bereave-other n me q r v row s k l f t u es = rw (was-parent n me q r row false k t, was-child n me q r row false k l f u, es)
+
+  -- the view is left alone
+  bereaved-marks : (n me q : ℕ) (r v : Rank) → bereaved anc n me q r v .rank .marks ≡ v .marks
+  unfolding bereaved orphaned inheriting saying becoming hearing
+  bereaved-marks n me q r v = go (inPhase waiting r && eqb (parentOf anc me r) q) (eqb (parentOf anc me v) none) (inPhase gathering r && eqb (parentOf anc me r) none && has (childrenOf anc n me r) q)
+    where
+      go : (a b c : Bool) → cond a (cond b (saying (becoming gathering (hearing anc n me 0 v)) (asks (childrenOf anc n me v))) (saying v (reports v (parentOf anc me v)))) (cond c (inheriting anc n me q r v) (saying v silent)) .rank .marks ≡ v .marks
+      go true true c = refl
+      go true false c = refl
+      go false b true = refl
+      go false b false = refl
+
+  pub kept-bereaved : (n me q : ℕ) (r v : Rank) (row : List ℕ) (s : Said) → Kept anc n me v row → s ≡ bereaved anc n me q r v → Kept anc n me (s .rank) row
+  kept-bereaved n me q r v row s k e = kept-said n me v row s k (ap (λ (x : Said). x .rank .marks) e ∙ bereaved-marks n me q r v)
+
+  pub notice-again : (n me q : ℕ) (r : Rank) (row : List ℕ) (b : Bool) (s s′ : Send) → Kept anc n me r row → b ≡ has (r .marks) q → b ≡ true → s ≡ silent → s′ ≡ silent
+      → _≡_ {A = Acted} (record { rank = r; row = row; first = s; second = s′; moved = 0 }) (noticing anc n me q r)
+  unfolding noticing done saying
+  notice-again n me q r row b s s′ k e t f g = rw (sym e ∙ t, f, g, k .table)
+
+  pub notice-returns : (n me q : ℕ) (r v : Rank) (b : Bool) (m : Mended) (s : Said) (a : Acted) → b ≡ has (r .marks) q → b ≡ false → m ≡ mended anc n (r .marks) q → v ≡ viewing anc n me (m .marks) r
+      → s ≡ bereaved anc n me q r v → a ≡ settling anc n me (saying (s .rank) (s .send)) (m .moved) → a ≡ noticing anc n me q r
+  unfolding noticing saying mended
+  notice-returns n me q r v b m s a e t em ev es ea = ea ∙ rw (sym e ∙ t, es, ev, em)

@@ -1,0 +1,338 @@
+-- Each rule keeps a rank in order, given what document 01 says of the event. A rule's own part leaves the rank fair, and settle makes
+-- it ordered, in one place. Over any ancestor sets. Assumes nothing.
+use mathlib.Core.Path.{_≡_, refl, sym, ap, subst, _∙_}
+use mathlib.Core.Bool.{Bool, true, false, cond, not}
+use mathlib.Core.Logic.{⊎-elim}
+use Prim.Native.Nat.{ℕ, _≤_, _<_}
+use native.Mathlib.Omega.{arith}
+use borrow.Author.Tests.{eqb-true, ne-eqb}
+use Rattle.sets.specs.Sets.{none, has, only, add, union, meet, minus, below}
+use Rattle.sets.proofs.Laws.Bools.{passes-or-fails, clash, fails, lt-or-le, or-none, or-cases, and-l, and-not-l}
+use Rattle.sets.proofs.Laws.Members.{has-zero, has-only, has-add-more, has-union, has-meet, minus-l, has-below-ge, has-minus, add-again}
+use Rattle.tree.specs.Tree.{parent, children, fresh, moved}
+use Rattle.tree.specs.Calls.{movedBelow}
+use Rattle.tree.proofs.Laws.Parents.{parent-lt, no-parent, no-parent-all, has-parent, parent-stays, marked-high}
+use Rattle.tree.proofs.Laws.Children.{child-o, child-gt}
+use Rattle.rank.specs.declared.Rank.{Rank}
+use Rattle.rank.specs.declared.Said.{Said}
+use Rattle.rank.specs.Words.{outside, gathering, waiting, decided}
+use Rattle.rank.specs.Records.{becoming, combining, concluding, owing, parentOf, childrenOf, awaiting, freshRank, hearing, viewing}
+use Rattle.rank.specs.Sends.{silent, reports, tells, asks}
+use Rattle.rank.specs.Rules.{saying, deciding, settled, done, settling, entering, raised, takingUp, lowered, takingDown, asked, takingAsk, inheriting, bereaved, noticing}
+use Rattle.rank.specs.Order.{Within, Fair, Ordered, Posted, Sound, Steady}
+use Rattle.rank.proofs.Laws.Cases.{settled-by, raised-by, lowered-by, asked-by, orphaned-by, bereaved-by}
+
+-- ---- sets within the group and without the own rank
+
+pub within-none : (n me : ℕ) → Within n me 0
+within-none n me = record { inside = λ k h. absurd (clash (has 0 k) h (has-zero k)); without = has-zero me }
+
+pub within-only : (n me q : ℕ) → q < n → (q ≡ me → ⊥) → Within n me (only q)
+within-only n me q l d = record {
+  inside = λ k h. let e : k ≡ q = eqb-true k q (sym (has-only q k) ∙ h) in omega arith;
+  without = has-only q me ∙ ne-eqb me q (λ e. d (sym e));
+}
+
+pub within-union : (n me a b : ℕ) → Within n me a → Within n me b → Within n me (union a b)
+within-union n me a b x y = record {
+  inside = λ k h. ⊎-elim (x .inside k) (y .inside k) (or-cases (has a k) (has b k) (sym (has-union a b k) ∙ h));
+  without = has-union a b me ∙ or-none (has a me) (has b me) (x .without) (y .without);
+}
+
+pub within-add : (n me a q : ℕ) → Within n me a → q < n → (q ≡ me → ⊥) → Within n me (add a q)
+unfolding add
+within-add n me a q x l d = within-union n me a (only q) x (within-only n me q l d)
+
+within-minus : (n me a b : ℕ) → Within n me a → Within n me (minus a b)
+within-minus n me a b x = record {
+  inside = λ k h. x .inside k (minus-l a b k h);
+  without = has-minus a b me ∙ and-not-l (has a me) (not (has b me)) (x .without);
+}
+
+within-meet : (n me a b : ℕ) → Within n me a → Within n me (meet a b)
+within-meet n me a b x = record {
+  inside = λ k h. x .inside k (and-l (has a k) (has b k) (sym (has-meet a b k) ∙ h));
+  without = has-meet a b me ∙ and-not-l (has a me) (has b me) (x .without);
+}
+
+within-below : (n me q : ℕ) → q ≤ n → q ≤ me → Within n me (below q)
+within-below n me q l b = record {
+  inside = λ k h. ⊎-elim (λ (c : k < q). omega arith) (λ (c : q ≤ k). absurd (clash (has (below q) k) h (has-below-ge q k c))) (lt-or-le k q);
+  without = has-below-ge q me b;
+}
+
+module _ (anc : ℕ → ℕ) (n me : ℕ) (small : n ≤ 64) (own : me < n) where
+  -- nobody is a child of itself
+  within-children : (marks : ℕ) → Within n me (children anc n marks me)
+  within-children marks = record {
+    inside = λ k h. child-o anc n marks me k h .within;
+    without = fails (has (children anc n marks me) me) (λ h. let l : me < me = child-gt anc n marks me me (omega arith) (child-o anc n marks me me h) in omega arith);
+  }
+
+  pub within-awaiting : (marks heard : ℕ) → Within n me (awaiting anc n me marks heard)
+  unfolding awaiting
+  within-awaiting marks heard = within-minus n me (children anc n marks me) heard (within-children marks)
+
+  -- ---- sends
+
+  silent-posted : (marks : ℕ) → Posted n me marks silent
+  unfolding silent
+  silent-posted marks = record { to-in = within-none n me; kind-known = λ k h. absurd (clash (has 0 k) h (has-zero k)); ask-empty = λ e. refl; ask-root = λ e k l. absurd (omega arith) }
+
+  reports-posted : (marks : ℕ) (r : Rank) (q : ℕ) → q < n → (q ≡ me → ⊥) → Posted n me marks (reports r q)
+  unfolding reports
+  reports-posted marks r q l d = record { to-in = within-only n me q l d; kind-known = λ k h. (omega arith, omega arith); ask-empty = λ e. absurd (omega arith); ask-root = λ e k l. absurd (omega arith) }
+
+  tells-posted : (marks x to : ℕ) → Within n me to → Posted n me marks (tells x to)
+  unfolding tells
+  tells-posted marks x to w = record { to-in = w; kind-known = λ k h. (omega arith, omega arith); ask-empty = λ e. absurd (omega arith); ask-root = λ e k l. absurd (omega arith) }
+
+  asks-posted : (marks to : ℕ) → Within n me to → parent anc marks me ≡ none → Posted n me marks (asks to)
+  unfolding asks
+  asks-posted marks to w e = record { to-in = w; kind-known = λ k h. (omega arith, omega arith); ask-empty = λ x. refl; ask-root = λ x k l. no-parent-all anc marks me (omega arith) e k l }
+
+  -- a parent is a rank, and not the rank itself
+  parent-posted : (r s : Rank) → (parentOf anc me r ≡ none → ⊥) → Posted n me (r .marks) (reports s (parentOf anc me r))
+  unfolding parentOf
+  parent-posted r s h =
+      let l : parent anc (r .marks) me < me = parent-lt anc (r .marks) me h in
+      reports-posted (r .marks) s (parent anc (r .marks) me) (omega arith) (λ e. omega arith)
+
+  -- ---- decide and settle
+
+  deciding-ordered : (x : ℕ) (r : Rank) → Fair anc n me r → Ordered anc n me (deciding anc n me x r .rank)
+  unfolding deciding saying concluding parentOf
+  deciding-ordered x r f = record {
+    fair = record { marks-in = f .marks-in; heard-in = f .heard-in; owed-in = f .owed-in; awaits = f .awaits; waits = λ e. absurd (omega arith); unless = λ e. absurd (e refl); known = omega arith };
+    gathers = λ e. absurd (omega arith);
+  }
+
+  deciding-posted : (x : ℕ) (r : Rank) → Fair anc n me r → Posted n me (r .marks) (deciding anc n me x r .send)
+  unfolding deciding saying childrenOf
+  deciding-posted x r f = tells-posted (r .marks) x (minus (union (children anc n (r .marks) me) (r .owed)) (r .marks)) (within-minus n me (union (children anc n (r .marks) me) (r .owed)) (r .marks) (within-union n me (children anc n (r .marks) me) (r .owed) (within-children (r .marks)) (f .owed-in)))
+
+  -- a fair rank, settled
+  abbrev Settles : Rank → Said → Type 0
+  Settles r s = Ordered anc n me (s .rank) × (s .rank .marks ≡ r .marks) × Posted n me (r .marks) (s .send)
+
+  settles : (r : Rank) → Fair anc n me r → Settles r (settled anc n me r)
+  unfolding saying becoming parentOf deciding concluding
+  settles r f =
+      settled-by anc n me (Settles r) r
+      (λ h. (record { fair = f; gathers = h }, refl, silent-posted (r .marks)))
+      (λ p a e. (deciding-ordered (r .word) r f, refl, deciding-posted (r .word) r f))
+      (λ p a e. (
+        record {
+          fair = record { marks-in = f .marks-in; heard-in = f .heard-in; owed-in = f .owed-in; awaits = f .awaits; waits = λ x. e; unless = λ x. f .unless (λ y. omega arith); known = omega arith };
+          gathers = λ x. absurd (omega arith);
+        },
+        refl,
+        parent-posted r r e,
+      ))
+
+  settling-sound : (s : Said) (m : ℕ) → Fair anc n me (s .rank) → Posted n me (s .rank .marks) (s .send) → Sound anc n me (s .rank .marks) (settling anc n me s m)
+  unfolding settling
+  settling-sound s m f p =
+      let t : Settles (s .rank) (settled anc n me (s .rank)) = settles (s .rank) f in
+      record { ordered = t .0; marks-are = t .1; row-is = ap (fresh anc n) (t .1); first-posted = p; second-posted = t .2 }
+
+  done-sound : (s : Said) (m : ℕ) → Ordered anc n me (s .rank) → Posted n me (s .rank .marks) (s .send) → Sound anc n me (s .rank .marks) (done anc n me s m)
+  unfolding done
+  done-sound s m f p = record { ordered = f; marks-are = refl; row-is = refl; first-posted = p; second-posted = silent-posted (s .rank .marks) }
+
+  -- ---- the rules
+
+  pub enter-sound : (w : ℕ) (r : Rank) → Ordered anc n me r → r .phase ≡ outside → Sound anc n me (r .marks) (entering anc n me w r)
+  unfolding entering saying becoming combining
+  enter-sound w r o p =
+      settling-sound (saying (becoming gathering (combining w r)) silent) 0
+      (record { marks-in = o .fair .marks-in; heard-in = o .fair .heard-in; owed-in = o .fair .owed-in; awaits = o .fair .awaits; waits = λ e. absurd (omega arith); unless = λ e. o .fair .unless (λ x. omega arith); known = omega arith })
+      (silent-posted (r .marks))
+
+  -- a rule's own part: the rank is fair, has these marks, and may send this
+  abbrev Leaves : ℕ → Said → Type 0
+  Leaves marks s = Fair anc n me (s .rank) × (s .rank .marks ≡ marks) × Posted n me marks (s .send)
+
+  leaves-sound : (marks : ℕ) (s : Said) (m : ℕ) → Leaves marks s → Sound anc n me marks (settling anc n me s m)
+  leaves-sound marks s m l = subst (λ (x : ℕ). Sound anc n me x (settling anc n me s m)) (l .1) (settling-sound s m (l .0) (subst (λ (x : ℕ). Posted n me x (s .send)) (sym (l .1)) (l .2)))
+
+  pub up-sound : (q x : ℕ) (r : Rank) → Ordered anc n me r → q < n → (q ≡ me → ⊥) → Sound anc n me (r .marks) (takingUp anc n me q x r)
+  unfolding takingUp saying combining hearing parentOf
+  up-sound q x r o l d =
+      leaves-sound (r .marks) (raised anc n me q x r) 0
+      (raised-by anc n me (Leaves (r .marks)) q x r
+      (λ e. (o .fair, refl, tells-posted (r .marks) (r .result) (only q) (within-only n me q l d)))
+      (λ e. (
+        record { marks-in = o .fair .marks-in; heard-in = within-add n me (r .heard) q (o .fair .heard-in) l d; owed-in = o .fair .owed-in; awaits = refl; waits = o .fair .waits; unless = o .fair .unless; known = o .fair .known },
+        refl,
+        silent-posted (r .marks),
+      )))
+
+  pub down-sound : (x : ℕ) (r : Rank) → Ordered anc n me r → Sound anc n me (r .marks) (takingDown anc n me x r)
+  unfolding takingDown saying deciding concluding
+  down-sound x r o =
+      let t : Settles r (lowered anc n me x r) = lowered-by anc n me (Settles r) x r (λ e. (deciding-ordered x r (o .fair), refl, deciding-posted x r (o .fair))) (λ e f. (o, refl, silent-posted (r .marks))) in
+      subst (λ (m : ℕ). Sound anc n me m (done anc n me (lowered anc n me x r) 0)) (t .1)
+      (done-sound (lowered anc n me x r) 0 (t .0) (subst (λ (m : ℕ). Posted n me m (lowered anc n me x r .send)) (sym (t .1)) (t .2)))
+
+  pub ask-sound : (q : ℕ) (r : Rank) → Ordered anc n me r → q < me → has (r .marks) q ≡ false → Sound anc n me (union (r .marks) (below q)) (takingAsk anc n me q r)
+  unfolding takingAsk saying owing viewing parentOf
+  ask-sound q r o l free =
+      leaves-sound after (asked anc n me q v) (movedBelow anc n (r .marks) q)
+      (asked-by anc n me (Leaves after) q v
+      (λ e. (fair, refl, tells-posted after (r .result) (only q) (within-only n me q (omega arith) (λ x. omega arith))))
+      (λ e f. (owes, refl, reports-posted after v q (omega arith) (λ x. omega arith)))
+      (λ e f. (owes, refl, silent-posted after)))
+    where
+      after : ℕ
+      after = union (r .marks) (below q)
+
+      v : Rank
+      v = viewing anc n me after r
+
+      fair : Fair anc n me v
+      fair = record {
+        marks-in = within-union n me (r .marks) (below q) (o .fair .marks-in) (within-below n me q (omega arith) (omega arith));
+        heard-in = o .fair .heard-in;
+        owed-in = o .fair .owed-in;
+        awaits = refl;
+        waits = λ e. has-parent anc after me q (omega arith) l (marked-high (r .marks) q q (omega arith) ∙ free);
+        unless = o .fair .unless;
+        known = o .fair .known;
+      }
+
+      owes : Fair anc n me (owing q v)
+      owes = record { marks-in = fair .marks-in; heard-in = fair .heard-in; owed-in = within-add n me (r .owed) q (o .fair .owed-in) (omega arith) (λ x. omega arith); awaits = refl; waits = fair .waits; unless = fair .unless; known = fair .known }
+
+  notice-again : (q : ℕ) (r : Rank) → has (r .marks) q ≡ true → noticing anc n me q r ≡ done anc n me (saying r silent) 0
+  unfolding noticing
+  notice-again q r e = rw e
+
+  notice-new : (q : ℕ) (r : Rank) → has (r .marks) q ≡ false → noticing anc n me q r ≡ settling anc n me (bereaved anc n me q r (viewing anc n me (add (r .marks) q) r)) (moved anc n (r .marks) q)
+  unfolding noticing
+  notice-new q r e = rw e
+
+  -- what a death leaves, once q is marked
+  bereaved-leaves : (q : ℕ) (r : Rank) → Ordered anc n me r → q < n → (q ≡ me → ⊥) → Leaves (add (r .marks) q) (bereaved anc n me q r (viewing anc n me (add (r .marks) q) r))
+  unfolding saying viewing becoming hearing parentOf inheriting childrenOf
+  bereaved-leaves q r o l d =
+      bereaved-by anc n me (Leaves after) q r v
+      (λ e f.
+      orphaned-by anc n me (Leaves after) v
+      (λ z. (
+        record { marks-in = marked; heard-in = within-none n me; owed-in = o .fair .owed-in; awaits = refl; waits = λ x. absurd (omega arith); unless = λ x. o .fair .unless (λ y. omega arith); known = omega arith },
+        refl,
+        asks-posted after (children anc n after me) (within-children after) z,
+      ))
+      (λ z. (seen (λ x. z), refl, parent-posted v v z)))
+      (λ e z h. (seen (λ x. absurd (omega arith)), refl, asks-posted after (meet (children anc n after me) (children anc n (r .marks) q)) (within-meet n me (children anc n after me) (children anc n (r .marks) q) (within-children after)) (still-root z)))
+      (λ g h. (seen (λ x y. o .fair .waits x (sym (parent-stays anc (r .marks) q me (g x)) ∙ y)), refl, silent-posted after))
+    where
+      after : ℕ
+      after = add (r .marks) q
+
+      v : Rank
+      v = viewing anc n me after r
+
+      marked : Within n me after
+      marked = within-add n me (r .marks) q (o .fair .marks-in) l d
+
+      seen : (r .phase ≡ waiting → parent anc after me ≡ none → ⊥) → Fair anc n me v
+      seen w = record { marks-in = marked; heard-in = o .fair .heard-in; owed-in = o .fair .owed-in; awaits = refl; waits = w; unless = o .fair .unless; known = o .fair .known }
+
+      still-root : parent anc (r .marks) me ≡ none → parent anc after me ≡ none
+      still-root z = no-parent anc after me (λ k b. has-add-more (r .marks) q k (no-parent-all anc (r .marks) me (omega arith) z k b))
+
+  pub notice-sound : (q : ℕ) (r : Rank) → Ordered anc n me r → q < n → (q ≡ me → ⊥) → Sound anc n me (add (r .marks) q) (noticing anc n me q r)
+  unfolding saying
+  notice-sound q r o l d = ⊎-elim again new (passes-or-fails (has (r .marks) q))
+    where
+      again : has (r .marks) q ≡ true → Sound anc n me (add (r .marks) q) (noticing anc n me q r)
+      again e = rw (notice-again q r e, add-again (r .marks) q e) (done-sound (saying r silent) 0 o (silent-posted (r .marks)))
+
+      new : has (r .marks) q ≡ false → Sound anc n me (add (r .marks) q) (noticing anc n me q r)
+      new e = rw (notice-new q r e) (leaves-sound (add (r .marks) q) (bereaved anc n me q r (viewing anc n me (add (r .marks) q) r)) (moved anc n (r .marks) q) (bereaved-leaves q r o l d))
+
+  -- A fresh rank is in order.
+  pub fresh-ordered : Ordered anc n me (freshRank anc n me)
+  unfolding freshRank
+  fresh-ordered = record {
+    fair = record { marks-in = within-none n me; heard-in = within-none n me; owed-in = within-none n me; awaits = refl; waits = λ e. absurd (omega arith); unless = λ e. refl; known = omega arith };
+    gathers = λ e. absurd (omega arith);
+  }
+
+-- ---- phases move as the rules say
+
+module _ (anc : ℕ → ℕ) (n me : ℕ) where
+  same-phase : (r r′ : Rank) → r′ .phase ≡ r .phase → r′ .result ≡ r .result → Steady r r′
+  same-phase r r′ p e = record { stays-outside = λ x. p ∙ x; stays-in = λ h x. h (sym p ∙ x); final = λ x. (p ∙ x, e) }
+
+  -- a rank that has entered and not decided may go to any phase but outside
+  open-phase : (r r′ : Rank) → (r .phase ≡ outside → ⊥) → (r .phase ≡ decided → ⊥) → (r′ .phase ≡ outside → ⊥) → Steady r r′
+  open-phase r r′ a b c = record { stays-outside = λ x. absurd (a x); stays-in = λ h. c; final = λ x. absurd (b x) }
+
+  steady-trans : (a b c : Rank) → Steady a b → Steady b c → Steady a c
+  steady-trans a b c s t = record {
+    stays-outside = λ x. t .stays-outside (s .stays-outside x);
+    stays-in = λ h. t .stays-in (s .stays-in h);
+    final = λ x. let u = s .final x in let v = t .final (u .0) in (v .0, v .1 ∙ u .1);
+  }
+
+  abbrev Becomes : Rank → Said → Type 0
+  Becomes r s = Steady r (s .rank)
+
+  settled-steady : (r : Rank) → Steady r (settled anc n me r .rank)
+  unfolding saying becoming deciding concluding
+  settled-steady r =
+      settled-by anc n me (Becomes r) r (λ h. same-phase r r refl refl)
+      (λ p a e. open-phase r (concluding (r .word) r) (λ x. omega arith) (λ x. omega arith) (λ x. omega arith))
+      (λ p a e. open-phase r (becoming waiting r) (λ x. omega arith) (λ x. omega arith) (λ x. omega arith))
+
+  settling-steady : (r : Rank) (s : Said) (m : ℕ) → Becomes r s → Steady r (settling anc n me s m .rank)
+  unfolding settling
+  settling-steady r s m h = steady-trans r (s .rank) (settled anc n me (s .rank) .rank) h (settled-steady (s .rank))
+
+  pub up-steady : (q x : ℕ) (r : Rank) → Steady r (takingUp anc n me q x r .rank)
+  unfolding takingUp saying combining hearing
+  up-steady q x r =
+      settling-steady r (raised anc n me q x r) 0
+      (raised-by anc n me (Becomes r) q x r (λ e. same-phase r r refl refl) (λ e. same-phase r (combining x (hearing anc n me (add (r .heard) q) r)) refl refl))
+
+  pub down-steady : (x : ℕ) (r : Rank) → Steady r (takingDown anc n me x r .rank)
+  unfolding takingDown done saying deciding concluding
+  down-steady x r =
+      lowered-by anc n me (Becomes r) x r
+      (λ e. ⊎-elim (λ (g : r .phase ≡ gathering). open-phase r (concluding x r) (λ y. omega arith) (λ y. omega arith) (λ y. omega arith)) (λ (w : r .phase ≡ waiting). open-phase r (concluding x r) (λ y. omega arith) (λ y. omega arith) (λ y. omega arith)) e)
+      (λ e f. same-phase r r refl refl)
+
+  pub ask-steady : (q : ℕ) (r : Rank) → Steady r (takingAsk anc n me q r .rank)
+  unfolding takingAsk saying owing viewing
+  ask-steady q r =
+      settling-steady r (asked anc n me q v) (movedBelow anc n (r .marks) q)
+      (asked-by anc n me (Becomes r) q v (λ e. same-phase r v refl refl) (λ e f. same-phase r (owing q v) refl refl) (λ e f. same-phase r (owing q v) refl refl))
+    where
+      v : Rank
+      v = viewing anc n me (union (r .marks) (below q)) r
+
+  bereaved-steady : (q : ℕ) (r : Rank) → Becomes r (bereaved anc n me q r (viewing anc n me (add (r .marks) q) r))
+  unfolding saying viewing becoming hearing inheriting
+  bereaved-steady q r =
+      bereaved-by anc n me (Becomes r) q r v
+      (λ e f.
+      orphaned-by anc n me (Becomes r) v (λ z. open-phase r (becoming gathering (hearing anc n me 0 v)) (λ x. omega arith) (λ x. omega arith) (λ x. omega arith)) (λ z. same-phase r v refl refl))
+      (λ e z h. same-phase r v refl refl)
+      (λ g h. same-phase r v refl refl)
+    where
+      v : Rank
+      v = viewing anc n me (add (r .marks) q) r
+
+  pub notice-steady : (q : ℕ) (r : Rank) → Steady r (noticing anc n me q r .rank)
+  unfolding noticing done saying
+  notice-steady q r = go (has (r .marks) q)
+    where
+      v : Rank
+      v = viewing anc n me (add (r .marks) q) r
+
+      go : (b : Bool) → Steady r (cond b (done anc n me (saying r silent) 0) (settling anc n me (bereaved anc n me q r v) (moved anc n (r .marks) q)) .rank)
+      go true = same-phase r r refl refl
+      go false = settling-steady r (bereaved anc n me q r v) (moved anc n (r .marks) q) (bereaved-steady q r)

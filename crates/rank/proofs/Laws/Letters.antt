@@ -1,0 +1,31 @@
+-- The list of messages that a rule sends: as long as its sets have members, each to a member of its set, in ascending order of receiver.
+-- Assumes nothing.
+use mathlib.Core.Path.{_≡_, sym, ap₂, subst, _∙_}
+use Prim.Native.Nat.{ℕ, _+_, _<_}
+use lib.ListN.{length, getD, length-append, length-map, List·getD-map}
+use Rattle.sets.specs.Sets.{has, count, listed}
+use Rattle.sets.proofs.Laws.Searches.{length-listed, listed-ascends}
+use Rattle.rank.specs.declared.Send.{Send}
+use Rattle.rank.specs.declared.Acted.{Acted}
+use Rattle.rank.specs.Sends.{letter, letters, sent}
+
+pub length-letters : (me : ℕ) (s : Send) → length (letters me s) ≡ count (has (s .to)) 64
+unfolding letters
+length-letters me s = length-map (listed (has (s .to)) 64) (letter me s) ∙ length-listed (has (s .to)) 64
+
+-- the list's length is the sum of the set sizes
+pub length-sent : (me : ℕ) (a : Acted) → length (sent me a) ≡ count (has (a .first .to)) 64 + count (has (a .second .to)) 64
+unfolding sent
+length-sent me a = length-append (letters me (a .first)) (letters me (a .second)) ∙ ap₂ (λ (x y : ℕ). x + y) (length-letters me (a .first)) (length-letters me (a .second))
+
+-- the message at a place of the list
+pub letter-at : (me : ℕ) (s : Send) (i : ℕ) → getD (letters me s) i (letter me s 0) ≡ letter me s (getD (listed (has (s .to)) 64) i 0)
+unfolding letters
+letter-at me s i = List·getD-map (letter me s) (listed (has (s .to)) 64) i 0
+
+-- a send to several ranks goes in ascending order of receiver
+pub letters-ascend : (me : ℕ) (s : Send) (i j : ℕ) → i < j → j < length (letters me s) → getD (letters me s) i (letter me s 0) .to < getD (letters me s) j (letter me s 0) .to
+unfolding letter
+letters-ascend me s i j l h =
+    rw (letter-at me s i, letter-at me s j)
+    (listed-ascends (has (s .to)) 64 i j 0 l (subst (λ (x : ℕ). j < x) (length-letters me s ∙ sym (length-listed (has (s .to)) 64)) h))

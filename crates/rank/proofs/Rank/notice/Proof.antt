@@ -1,0 +1,49 @@
+-- `Rank::notice` meets its contract: mark q, see what the death means, settle. Assumes nothing.
+use mathlib.Core.Path.{sym, _∙_}
+use borrow.Author.Needs.{needs}
+use Rattle.rank.proofs.Laws.Acting.{kept-mended, kept-seen, kept-bereaved, notice-again, notice-returns}
+use Rattle.rank.proofs.Rank.notice.Statement.{statement}
+use Rattle.rank.proofs.Rank.notice.Tie as tie
+
+member-requires : tie.Need-member-requires
+member-requires c κs = search needs
+
+silent-requires : tie.Need-silent-requires
+silent-requires c κs = search needs
+
+silent-requires-2 : tie.Need-silent-requires-2
+silent-requires-2 c κs = search needs
+
+returns : tie.Need-returns
+returns c = search notice-again
+
+mend-requires : tie.Need-mend-requires
+mend-requires c κs = search needs
+
+view-requires : tie.Need-view-requires
+view-requires c κs = search kept-mended
+
+bereave-requires : tie.Need-bereave-requires
+bereave-requires c κs =
+    let unmarked = c .before .before .before in
+    (search needs, (search kept-seen, (search needs, sym (unmarked .before .member .ensures) ∙ unmarked .if1 .left)))
+
+settle-requires : tie.Need-settle-requires
+settle-requires c κs = search (kept-bereaved, kept-seen)
+
+returns-2 : tie.Need-returns-2
+returns-2 c = search notice-returns
+
+pub notice-spec : {M : Type 1} → statement M
+notice-spec =
+    tie.close
+    (tie.spec
+    member-requires
+    silent-requires
+    silent-requires-2
+    returns
+    mend-requires
+    view-requires
+    bereave-requires
+    settle-requires
+    returns-2)

@@ -1,0 +1,54 @@
+-- `Rank::up` meets its contract: a decided rank answers, any other hears q and awaits one fewer. Assumes nothing.
+use borrow.Author.Needs.{needs}
+use Rattle.rank.proofs.Laws.Acting.{up-decided, up-undecided}
+use Rattle.rank.proofs.Rank.up.Statement.{statement}
+use Rattle.rank.proofs.Rank.up.Tie as tie
+
+only-requires : tie.Need-only-requires
+only-requires c κs = search needs
+
+down-requires : tie.Need-down-requires
+down-requires c κs = search needs
+
+settle-requires : tie.Need-settle-requires
+settle-requires c κs = search needs
+
+returns : tie.Need-returns
+returns c = search up-decided
+
+with-requires : tie.Need-with-requires
+with-requires c κs = search needs
+
+only-requires-2 : tie.Need-only-requires-2
+only-requires-2 c κs = search needs
+
+minus-requires : tie.Need-minus-requires
+minus-requires c κs = search needs
+
+combine-requires : tie.Need-combine-requires
+combine-requires c κs = search needs
+
+silent-requires : tie.Need-silent-requires
+silent-requires c κs = search needs
+
+settle-requires-2 : tie.Need-settle-requires-2
+settle-requires-2 c κs = search needs
+
+returns-2 : tie.Need-returns-2
+returns-2 c = search up-undecided
+
+pub up-spec : {M : Type 1} → statement M
+up-spec =
+    tie.close
+    (tie.spec
+    only-requires
+    down-requires
+    settle-requires
+    returns
+    with-requires
+    only-requires-2
+    minus-requires
+    combine-requires
+    silent-requires
+    settle-requires-2
+    returns-2)

@@ -1,0 +1,5 @@
+pub mod Words
+pub mod Records
+pub mod Sends
+pub mod Rules
+pub mod Order

@@ -1,0 +1,35 @@
+-- What a rule sends. A send goes to a set of ranks, in ascending order of receiver; the sends of a rule go out in the order written.
+use Prim.Native.Nat.{ℕ}
+use mathlib.Core.List.{List, map, _++_}
+use Rattle.sets.specs.Sets.{has, only, listed}
+use Rattle.rank.specs.declared.Rank.{Rank}
+use Rattle.rank.specs.declared.Send.{Send}
+use Rattle.rank.specs.declared.Message.{Message}
+use Rattle.rank.specs.declared.Acted.{Acted}
+use Rattle.rank.specs.Words.{up, down, ask}
+
+-- Nothing is sent.
+unfoldable pub silent : Send
+silent = record { kind = 0; word = 0; to = 0 }
+
+-- UP word to q.
+unfoldable pub reports : Rank → ℕ → Send
+reports r q = record { kind = up; word = r .word; to = only q }
+
+-- DOWN x to each rank of the set.
+unfoldable pub tells : ℕ → ℕ → Send
+tells x to = record { kind = down; word = x; to = to }
+
+-- ASK each rank of the set.
+unfoldable pub asks : ℕ → Send
+asks to = record { kind = ask; word = 0; to = to }
+
+-- The messages of a send by the rank `me`, and those of all that a rule sends.
+unfoldable pub letter : ℕ → Send → ℕ → Message
+letter me s q = record { kind = s .kind; from = me; to = q; word = s .word }
+
+unfoldable pub letters : ℕ → Send → List Message
+letters me s = map (letter me s) (listed (has (s .to)) 64)
+
+unfoldable pub sent : ℕ → Acted → List Message
+sent me a = letters me (a .first) ++ letters me (a .second)

@@ -1,0 +1,379 @@
+// One rank: what it holds, and what it does when it enters, takes a message, hears of a death, or settles.
+// A record goes in by value and the new record comes back, with its row of the tables, what it sends, and moved.
+ghost use mathlib.Core.Path.{_≡_};
+ghost use Prim.Native.Nat.{_<_};
+ghost use mathlib.Core.Bool.{false};
+ghost use Rattle.sets.specs.Sets.{has};
+ghost use Rattle.tree.specs.Tree.{flat};
+ghost use Rattle.rank.specs.Words.{combine};
+ghost use Rattle.rank.specs.Records.{awaiting, freshRank, viewing};
+ghost use Rattle.rank.specs.Sends.{asks, reports, silent, tells};
+ghost use Rattle.rank.specs.Rules.{asked, bereaved, deciding, entering, noticing, orphaned, saying, settling, takingAsk, takingDown, takingUp};
+ghost use Rattle.rank.specs.Order.{Kept};
+
+// Phases.
+pub const OUTSIDE: u8 = 0;
+
+pub const GATHERING: u8 = 1;
+
+pub const WAITING: u8 = 2;
+
+pub const DECIDED: u8 = 3;
+
+// Kinds of messages.
+pub const UP: u8 = 1;
+
+pub const DOWN: u8 = 2;
+
+pub const ASK: u8 = 3;
+
+// What a rank holds; its row of the tables travels beside it.
+pub struct Rank {
+    pub phase: u8,
+    pub marks: u64,
+    pub heard: u64,
+    pub awaited: u64,
+    pub owed: u64,
+    pub word: u32,
+    pub result: u32,
+}
+
+// One message in flight.
+pub struct Message {
+    pub kind: u8,
+    pub from: u8,
+    pub to: u8,
+    pub word: u32,
+}
+
+// One message for each rank of a set, in ascending order.
+pub struct Send {
+    pub kind: u8,
+    pub word: u32,
+    pub to: u64,
+}
+
+// A rank after a part of a rule, and what that part sends.
+pub struct Said {
+    pub rank: Rank,
+    pub send: Send,
+}
+
+// A rank after a rule: its row, the rule's own send, then settle's, and moved.
+pub struct Acted {
+    pub rank: Rank,
+    pub row: [u8; 64],
+    pub first: Send,
+    pub second: Send,
+    pub moved: u32,
+}
+
+// Two words become one.
+pub fn combine(a: u32, b: u32) -> u32
+    ensures { λ r. ⌜ r ≡ combine a b ⌝ }
+{
+    a & b
+}
+
+impl Send {
+    // Nothing is sent.
+    pub fn silent() -> Send
+        ensures { λ r. ⌜ r ≡ silent ⌝ }
+    {
+        Send {
+            kind: 0,
+            word: 0,
+            to: 0,
+        }
+    }
+
+    // DOWN x to each rank of the set.
+    pub fn down(x: u32, to: u64) -> Send
+        ensures { λ r. ⌜ r ≡ tells x to ⌝ }
+    {
+        Send {
+            kind: DOWN,
+            word: x,
+            to,
+        }
+    }
+
+    // ASK each rank of the set.
+    pub fn ask(to: u64) -> Send
+        ensures { λ r. ⌜ r ≡ asks to ⌝ }
+    {
+        Send {
+            kind: ASK,
+            word: 0,
+            to,
+        }
+    }
+}
+
+impl Rank {
+    // A rank that has done nothing yet.
+    pub fn fresh(n: u8, me: u8, row: [u8; 64]) -> Rank
+        requires { ⌜ Kept flat n me (freshRank flat n me) row ⌝ }
+        ensures { λ r. ⌜ r ≡ freshRank flat n me ⌝ }
+    {
+        Rank {
+            phase: OUTSIDE,
+            marks: 0,
+            heard: 0,
+            awaited: tree::children_of(n, 0, row, me),
+            owed: 0,
+            word: 0xffff_ffff,
+            result: 0,
+        }
+    }
+
+    // UP word to q.
+    fn report(self, q: u8) -> Send
+        requires { ⌜ q < 64 ⌝ }
+        ensures { λ r. ⌜ r ≡ reports self q ⌝ }
+    {
+        Send {
+            kind: UP,
+            word: self.word,
+            to: sets::only(q),
+        }
+    }
+
+    // Result x, phase decided, DOWN x to every unmarked rank in children or owed.
+    fn decide(mut self, n: u8, me: u8, row: [u8; 64], x: u32) -> Said
+        requires { ⌜ Kept flat n me self row ⌝ }
+        ensures { λ r. ⌜ r ≡ deciding flat n me x self ⌝ }
+    {
+        let children = tree::children_of(n, self.marks, row, me);
+        let to = sets::minus(sets::union(children, self.owed), self.marks);
+        self.phase = DECIDED;
+        self.result = x;
+        Said {
+            rank: self,
+            send: Send::down(x, to),
+        }
+    }
+
+    // Decides or reports where nobody is awaited any more; `first` is what the rule has sent before.
+    pub fn settle(mut self, n: u8, me: u8, row: [u8; 64], first: Send, moved: u32) -> Acted
+        requires { ⌜ Kept flat n me self row ⌝ }
+        ensures { λ r. ⌜ r ≡ settling flat n me (saying self first) moved ⌝ }
+    {
+        if self.phase != GATHERING {
+            return Acted {
+                rank: self,
+                row,
+                first,
+                second: Send::silent(),
+                moved,
+            };
+        }
+        if self.awaited != 0 {
+            return Acted {
+                rank: self,
+                row,
+                first,
+                second: Send::silent(),
+                moved,
+            };
+        }
+        let parent = row[me as usize];
+        if parent == sets::NONE {
+            let end = self.decide(n, me, row, self.word);
+            let rank = end.rank;
+            let second = end.send;
+            return Acted {
+                rank,
+                row,
+                first,
+                second,
+                moved,
+            };
+        }
+        let second = self.report(parent);
+        self.phase = WAITING;
+        Acted {
+            rank: self,
+            row,
+            first,
+            second,
+            moved,
+        }
+    }
+
+    // The rank enters with word w.
+    pub fn enter(mut self, n: u8, me: u8, row: [u8; 64], w: u32) -> Acted
+        requires { ⌜ Kept flat n me self row ⌝ }
+        ensures { λ r. ⌜ r ≡ entering flat n me w self ⌝ }
+    {
+        self.word = combine(self.word, w);
+        self.phase = GATHERING;
+        self.settle(n, me, row, Send::silent(), 0)
+    }
+
+    // UP x from q.
+    pub fn up(mut self, n: u8, me: u8, row: [u8; 64], q: u8, x: u32) -> Acted
+        requires { ⌜ Kept flat n me self row ⌝ }
+        requires { ⌜ self .awaited ≡ awaiting flat n me (self .marks) (self .heard) ⌝ }
+        requires { ⌜ q < n ⌝ }
+        ensures { λ r. ⌜ r ≡ takingUp flat n me q x self ⌝ }
+    {
+        if self.phase == DECIDED {
+            return self.settle(n, me, row, Send::down(self.result, sets::only(q)), 0);
+        }
+        self.heard = sets::with(self.heard, q);
+        self.awaited = sets::minus(self.awaited, sets::only(q));
+        self.word = combine(self.word, x);
+        self.settle(n, me, row, Send::silent(), 0)
+    }
+
+    // DOWN x.
+    pub fn down(self, n: u8, me: u8, row: [u8; 64], x: u32) -> Acted
+        requires { ⌜ Kept flat n me self row ⌝ }
+        ensures { λ r. ⌜ r ≡ takingDown flat n me x self ⌝ }
+    {
+        if (self.phase == GATHERING) | (self.phase == WAITING) {
+            let end = self.decide(n, me, row, x);
+            let rank = end.rank;
+            let first = end.send;
+            return Acted {
+                rank,
+                row,
+                first,
+                second: Send::silent(),
+                moved: 0,
+            };
+        }
+        Acted {
+            rank: self,
+            row,
+            first: Send::silent(),
+            second: Send::silent(),
+            moved: 0,
+        }
+    }
+
+    // A new view, with its table.
+    fn view(mut self, n: u8, me: u8, marks: u64, row: [u8; 64]) -> Rank
+        requires { ⌜ Kept flat n me (viewing flat n me marks self) row ⌝ }
+        ensures { λ r. ⌜ r ≡ viewing flat n me marks self ⌝ }
+    {
+        self.marks = marks;
+        self.awaited = sets::minus(tree::children_of(n, marks, row, me), self.heard);
+        self
+    }
+
+    // ASK from q: every rank below q is dead.
+    pub fn ask(self, n: u8, me: u8, row: [u8; 64], q: u8) -> Acted
+        requires { ⌜ Kept flat n me self row ⌝ }
+        requires { ⌜ q < n ⌝ }
+        ensures { λ r. ⌜ r ≡ takingAsk flat n me q self ⌝ }
+    {
+        let m = tree::mend_below(n, self.marks, row, q);
+        let table = m.table;
+        let seen = self.view(n, me, m.marks, table);
+        let reply = seen.answer(n, me, table, q);
+        let rank = reply.rank;
+        rank.settle(n, me, table, reply.send, m.moved)
+    }
+
+    // What an ASK from q means to a rank that has marked all below q: DOWN if decided, else UP if q is now the parent.
+    fn answer(mut self, n: u8, me: u8, row: [u8; 64], q: u8) -> Said
+        requires { ⌜ Kept flat n me self row ⌝ }
+        requires { ⌜ q < n ⌝ }
+        ensures { λ r. ⌜ r ≡ asked flat n me q self ⌝ }
+    {
+        if self.phase == DECIDED {
+            return Said {
+                rank: self,
+                send: Send::down(self.result, sets::only(q)),
+            };
+        }
+        self.owed = sets::with(self.owed, q);
+        let parent = row[me as usize];
+        if (self.phase == WAITING) & (parent == q) {
+            return Said {
+                rank: self,
+                send: self.report(q),
+            };
+        }
+        Said {
+            rank: self,
+            send: Send::silent(),
+        }
+    }
+
+    // Waiting, and the parent died: reports to the new parent, or gathers again as the root and asks all children.
+    fn orphan(mut self, n: u8, me: u8, row: [u8; 64]) -> Said
+        requires { ⌜ Kept flat n me self row ⌝ }
+        ensures { λ r. ⌜ r ≡ orphaned flat n me self ⌝ }
+    {
+        let parent = row[me as usize];
+        if parent != sets::NONE {
+            return Said {
+                rank: self,
+                send: self.report(parent),
+            };
+        }
+        let children = tree::children_of(n, self.marks, row, me);
+        self.heard = 0;
+        self.awaited = children;
+        self.phase = GATHERING;
+        Said {
+            rank: self,
+            send: Send::ask(children),
+        }
+    }
+
+    // Told that q is dead.
+    pub fn notice(self, n: u8, me: u8, row: [u8; 64], q: u8) -> Acted
+        requires { ⌜ Kept flat n me self row ⌝ }
+        requires { ⌜ q < n ⌝ }
+        ensures { λ r. ⌜ r ≡ noticing flat n me q self ⌝ }
+    {
+        if sets::member(self.marks, q) {
+            return Acted {
+                rank: self,
+                row,
+                first: Send::silent(),
+                second: Send::silent(),
+                moved: 0,
+            };
+        }
+        let m = tree::mend(n, self.marks, row, q);
+        let table = m.table;
+        let seen = self.view(n, me, m.marks, table);
+        let said = self.bereave(n, me, row, q, seen, table);
+        let rank = said.rank;
+        rank.settle(n, me, table, said.send, m.moved)
+    }
+
+    // What the death of q means to this rank: `seen` and `table` are the rank and its row with q marked.
+    fn bereave(self, n: u8, me: u8, row: [u8; 64], q: u8, seen: Rank, table: [u8; 64]) -> Said
+        requires { ⌜ Kept flat n me self row ⌝ }
+        requires { ⌜ Kept flat n me seen table ⌝ }
+        requires { ⌜ q < n ⌝ }
+        requires { ⌜ has (self .marks) q ≡ false ⌝ }
+        ensures { λ r. ⌜ r ≡ bereaved flat n me q self seen ⌝ }
+    {
+        let was = row[me as usize];
+        if (self.phase == WAITING) & (was == q) {
+            return seen.orphan(n, me, table);
+        }
+        let linked = row[q as usize];
+        if (self.phase == GATHERING) & (was == sets::NONE) & (linked == me) {
+            let gained = sets::meet(
+                tree::children_of(n, seen.marks, table, me),
+                tree::children_of(n, self.marks, row, q),
+            );
+            return Said {
+                rank: seen,
+                send: Send::ask(gained),
+            };
+        }
+        Said {
+            rank: seen,
+            send: Send::silent(),
+        }
+    }
+}
