@@ -1,7 +1,7 @@
 // One rank: what it holds, and what it does when it enters, takes a message, hears of a death, or settles.
 // A record goes in by value and the new record comes back, with its row of the tables, what it sends, and moved.
 ghost use mathlib.Core.Path.{_≡_};
-ghost use Prim.Native.Nat.{_<_};
+ghost use Prim.Native.Nat.{_<_, _≤_};
 ghost use mathlib.Core.Bool.{false};
 ghost use Rattle.sets.specs.Sets.{has};
 ghost use Rattle.tree.specs.Tree.{flat};
@@ -9,7 +9,7 @@ ghost use Rattle.rank.specs.Words.{combine};
 ghost use Rattle.rank.specs.Records.{awaiting, freshRank, viewing};
 ghost use Rattle.rank.specs.Sends.{asks, reports, silent, tells};
 ghost use Rattle.rank.specs.Rules.{asked, bereaved, deciding, entering, noticing, orphaned, saying, settling, takingAsk, takingDown, takingUp};
-ghost use Rattle.rank.specs.Order.{Kept};
+ghost use Rattle.rank.specs.Order.{Kept, inOrder, proper};
 
 // Phases.
 pub const OUTSIDE: u8 = 0;
@@ -110,7 +110,37 @@ impl Send {
     }
 }
 
+// Whether a set lies within n and leaves out its own rank.
+fn proper(n: u8, me: u8, w: u64) -> bool
+    requires { ⌜ n ≤ 64 ⌝ }
+    requires { ⌜ me < n ⌝ }
+    ensures { λ t. ⌜ t ≡ proper n me w ⌝ }
+{
+    (sets::minus(w, sets::below(n)) == 0) & !sets::member(w, me)
+}
+
 impl Rank {
+    // Whether this record and its row are in order.
+    pub fn in_order(self, n: u8, me: u8, row: [u8; 64]) -> bool
+        requires { ⌜ n ≤ 64 ⌝ }
+        requires { ⌜ me < n ⌝ }
+        ensures { λ t. ⌜ t ≡ inOrder flat n me self row ⌝ }
+    {
+        if !tree::same(row, tree::fresh(n, self.marks)) {
+            return false;
+        }
+        let parent = row[me as usize];
+        let awaited = sets::minus(tree::children_of(n, self.marks, row, me), self.heard);
+        let sets_in = proper(n, me, self.marks)
+            & proper(n, me, self.heard)
+            & proper(n, me, self.awaited)
+            & proper(n, me, self.owed);
+        let gathers = !(self.phase == GATHERING) | !(self.awaited == 0);
+        let waits = !(self.phase == WAITING) | !(parent == sets::NONE);
+        let unless = (self.phase == DECIDED) | (self.result == 0);
+        sets_in & (self.awaited == awaited) & gathers & waits & unless & (self.phase <= DECIDED)
+    }
+
     // A rank that has done nothing yet.
     pub fn fresh(n: u8, me: u8, row: [u8; 64]) -> Rank
         requires { ⌜ Kept flat n me (freshRank flat n me) row ⌝ }

@@ -12,13 +12,41 @@ badSize = 1
 abbrev pub notInOrder : ℕ
 notInOrder = 2
 
--- a rank number is not below n
+-- kind not 1 to 5, or b not 0 where it must be
+abbrev pub badKind : ℕ
+badKind = 3
+
+-- a rank number (a for kinds 1, 3, 4; b for kind 4; the rank of a climb or mark) is not below n
 abbrev pub badRank : ℕ
 badRank = 4
 
--- a climb from a marked rank
+-- no message at that place
+abbrev pub badPlace : ℕ
+badPlace = 5
+
+-- kind 1, 3 or 4 and rank a is dead; a climb from a marked rank
 abbrev pub deadRank : ℕ
 deadRank = 6
+
+-- kind 1 and a is not outside
+abbrev pub entered : ℕ
+entered = 7
+
+-- kind 4 and b is living
+abbrev pub livingRank : ℕ
+livingRank = 8
+
+-- kind 3 and a is the only living rank
+abbrev pub onlyLiving : ℕ
+onlyLiving = 9
+
+-- kind 5 and both ends live
+abbrev pub livingEnds : ℕ
+livingEnds = 10
+
+-- over 128 messages would be in flight afterwards
+abbrev pub tooMany : ℕ
+tooMany = 11
 
 -- allowance too short
 abbrev pub tooShort : ℕ

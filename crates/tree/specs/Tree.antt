@@ -27,7 +27,7 @@ unfoldable pub children : (ℕ → ℕ) → ℕ → ℕ → ℕ → ℕ
 children anc n marks p = setOf (λ c. not (has marks c) && eqb (parent anc marks c) p) n
 
 -- A table of n entries, the value of f at each place.
-unfoldable pub row : (ℕ → ℕ) → ℕ → List ℕ
+unfoldable pub row : {A : Type 0} → (ℕ → A) → ℕ → List A
 row f zero = []
 row f (suc n) = row f n ++ (f n ∷ [])
 

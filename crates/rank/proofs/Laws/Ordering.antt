@@ -1,17 +1,18 @@
 -- The tests of "in order" and the facts that they stand for, both ways. Assumes nothing.
 use mathlib.Core.Path.{_≡_, sym, ap, subst, _∙_}
-use mathlib.Core.Bool.{true, false, not, _||_}
-use mathlib.Core.List.{List}
+use mathlib.Core.Bool.{Bool, true, false, not, _&&_, _||_}
+use mathlib.Core.List.{List, [], _∷_}
 use mathlib.Core.Logic.{_⊎_, inl, inr, ⊎-elim}
 use Prim.Native.Nat.{ℕ, _≤_, _<_}
-use lib.Dec.{eqb}
-use borrow.Author.Tests.{eqb-true, eqb-false, eq-eqb, ne-eqb, ltb-true, leb-true, le-leb, not-true}
-use Rattle.sets.specs.Sets.{none, has, minus, below}
-use Rattle.sets.proofs.Laws.Bools.{and-i, and-l, and-r, not-i, clash, or-l, or-r, or-cases, passes-or-fails, all-head, all-tail, all-nil, all-cons, means, meant}
+use lib.Dec.{eqb, leb}
+use lib.ListN.{getD}
+use borrow.Author.Tests.{eqb-true, eqb-false, eq-eqb, ne-eqb, ltb-true, leb-true, le-leb, not-true, not-false}
+use Rattle.sets.specs.Sets.{none, has, minus, below, all}
+use Rattle.sets.proofs.Laws.Bools.{and-assoc, and-true, fails, and-i, and-l, and-r, not-i, clash, or-l, or-r, or-cases, passes-or-fails, all-head, all-tail, all-nil, all-cons, means, meant}
 use Rattle.sets.proofs.Laws.Members.{has-zero, has-below, minus-not, none-in, minus-l, minus-r, has-below-lt}
-use Rattle.tree.specs.Tree.{fresh}
+use Rattle.tree.specs.Tree.{parent, children, fresh}
 use Rattle.tree.specs.Calls.{same}
-use Rattle.tree.proofs.Laws.Rows.{same-eq, same-refl}
+use Rattle.tree.proofs.Laws.Rows.{same-eq, same-refl, fresh-at}
 use Rattle.rank.specs.declared.Rank.{Rank}
 use Rattle.rank.specs.declared.Acted.{Acted}
 use Rattle.rank.specs.Words.{gathering, waiting, decided}
@@ -83,3 +84,26 @@ module _ (anc : ℕ → ℕ) (n me : ℕ) where
   -- What a rule gives is in order.
   pub sound-in-order : n ≤ 64 → me < n → (marks : ℕ) (a : Acted) → Sound anc n me marks a → inOrder anc n me (a .rank) (a .row) ≡ true
   sound-in-order small own marks a s = facts-in-order small own (a .rank) (a .row) (s .ordered) (s .row-is ∙ ap (fresh anc n) (sym (s .marks-are)))
+
+-- ---- the test along its code
+
+pub unfresh : (anc : ℕ → ℕ) (n me : ℕ) (r : Rank) (row t : List ℕ) (k : Bool) → t ≡ fresh anc n (r .marks) → k ≡ same row t → not k ≡ true → false ≡ inOrder anc n me r row
+unfresh anc n me r row t k e f g =
+    sym (fails (inOrder anc n me r row) (λ h.
+    clash (same row t) (subst (λ (x : List ℕ). same row x ≡ true) (in-order-facts anc n me r row h .1 ∙ sym e) (same-refl row)) (sym f ∙ not-true k g)))
+
+nine : (a b c d e f g h i s : Bool) → s ≡ true → a && b && c && d && e && f && g && h && i ≡ all (a ∷ b ∷ c ∷ d ∷ s ∷ e ∷ f ∷ g ∷ h ∷ i ∷ [])
+unfolding all
+nine a b c d e f g h i s z = rw z (simp (and-assoc, and-true))
+
+pub tested : (anc : ℕ → ℕ) (n me : ℕ) (r : Rank) (row t : List ℕ) (k : Bool) (c w : ℕ) (p1 p2 p3 p4 : Bool) → n ≤ 64 → me < n → t ≡ fresh anc n (r .marks) → k ≡ same row t → not k ≡ false
+    → c ≡ children anc n (r .marks) me → w ≡ minus c (r .heard) → p1 ≡ proper n me (r .marks) → p2 ≡ proper n me (r .heard) → p3 ≡ proper n me (r .awaited) → p4 ≡ proper n me (r .owed)
+    → p1 && p2 && p3 && p4 && eqb (r .awaited) w && (not (eqb (r .phase) gathering) || not (eqb (r .awaited) 0)) && (not (eqb (r .phase) waiting) || not (eqb (getD row me 0) none)) && (eqb (r .phase) decided || eqb (r .result) 0) && leb (r .phase) decided
+    ≡ inOrder anc n me r row
+unfolding inOrder clauses awaiting parentOf
+tested anc n me r row t k c w p1 p2 p3 p4 a b e f g ec ew e1 e2 e3 e4 =
+    let yes′ : same row t ≡ true = sym f ∙ not-false k g in
+    let fr : row ≡ fresh anc n (r .marks) = same-eq row t yes′ ∙ e in
+    let sm : same row (fresh anc n (r .marks)) ≡ true = subst (λ (x : List ℕ). same row x ≡ true) fr (same-refl row) in
+    let pa : getD row me 0 ≡ parent anc (r .marks) me = ap (λ (x : List ℕ). getD x me 0) fr ∙ fresh-at anc n (r .marks) me a b in
+    rw (e1, e2, e3, e4, ew, ec, pa) (nine _ _ _ _ _ _ _ _ _ _ sm)

@@ -66,6 +66,14 @@ pub and-not-r : (a b : Bool) → b ≡ false → a && b ≡ false
 and-not-r true b p = p
 and-not-r false b p = refl
 
+pub and-assoc : (a b c : Bool) → a && b && c ≡ a && (b && c)
+and-assoc true b c = refl
+and-assoc false b c = refl
+
+pub and-true : (a : Bool) → a && true ≡ a
+and-true true = refl
+and-true false = refl
+
 pub or-l : (a b : Bool) → a ≡ true → a || b ≡ true
 or-l true b p = refl
 or-l false b p = absurd (true≢false (sym p))

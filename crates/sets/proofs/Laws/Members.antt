@@ -13,7 +13,7 @@ use lib.Pow.{pow-pos, pow-mono, pow-lt, pow-add, shr-shr, shl-exact}
 use lib.Bits.{bitAnd, bitOr, bitXor, and-shr, or-shr, xor-shr, and-mod, or-mod, xor-mod, or-lt, or-shifted-r, and-mask, xor-add-and}
 use borrow.Author.Tests.{not-true, eq-eqb, ne-eqb, eqb-true, lt-ltb, le-ltb, ltb-true}
 use Rattle.sets.specs.Sets.{has, only, union, meet, minus, add, below, setOf}
-use Rattle.sets.proofs.Laws.Bools.{same-test, and-i, and-l, and-r, or-l, or-r, or-cases, clash, fails, passes, not-i, lt-or-le, eq-or-ne, or-false-r, cond-true, and-not-l}
+use Rattle.sets.proofs.Laws.Bools.{and-true, same-test, and-i, and-l, and-r, or-l, or-r, or-cases, clash, fails, passes, not-i, lt-or-le, eq-or-ne, or-false-r, cond-true, and-not-l}
 
 -- ---- digits
 
@@ -270,12 +270,8 @@ unfolding below setOf
 below-is zero = refl
 below-is (suc p) = below-suc p ∙ ap (λ (w : ℕ). add w p) (below-is p)
 
-and-true-r : (b : Bool) → b && true ≡ b
-and-true-r true = refl
-and-true-r false = refl
-
 pub has-below : (p k : ℕ) → has (below p) k ≡ ltb k p
-has-below p k = ap (λ (w : ℕ). has w k) (below-is p) ∙ has-setOf (λ k. true) p k ∙ and-true-r (ltb k p)
+has-below p k = ap (λ (w : ℕ). has w k) (below-is p) ∙ has-setOf (λ k. true) p k ∙ and-true (ltb k p)
 
 pub has-below-lt : (p k : ℕ) → k < p → has (below p) k ≡ true
 has-below-lt p k l = has-below p k ∙ lt-ltb k p l
@@ -286,7 +282,7 @@ has-below-ge p k l = has-below p k ∙ le-ltb k p l
 -- the k low digits of a word
 pub has-mod : (w n k : ℕ) → k < n → has (w % 2 ^ n) k ≡ has w k
 unfolding below meet
-has-mod w n k l = ap (λ (x : ℕ). has x k) (sym (and-mask w n)) ∙ has-meet w (below n) k ∙ ap (λ (b : Bool). has w k && b) (has-below-lt n k l) ∙ and-true-r (has w k)
+has-mod w n k l = ap (λ (x : ℕ). has x k) (sym (and-mask w n)) ∙ has-meet w (below n) k ∙ ap (λ (b : Bool). has w k && b) (has-below-lt n k l) ∙ and-true (has w k)
 
 -- ---- sets of sets
 
@@ -378,4 +374,4 @@ minus-minus a b p = ext (minus (minus a b) (only p)) (minus a (add b p)) (λ k. 
         ∙ move (has a k) (has b k) (eqb k p) ∙ sym (has-minus a (add b p) k ∙ ap (λ (x : Bool). has a k && not x) (has-add b p k))
 
 pub minus-none : (a : ℕ) → minus a 0 ≡ a
-minus-none a = ext (minus a 0) a (λ k. has-minus a 0 k ∙ ap (λ (x : Bool). has a k && not x) (has-zero k) ∙ and-true-r (has a k))
+minus-none a = ext (minus a 0) a (λ k. has-minus a 0 k ∙ ap (λ (x : Bool). has a k && not x) (has-zero k) ∙ and-true (has a k))

@@ -53,14 +53,14 @@ moved-le anc n marks q = count-le (moves anc marks q) n
 
 pub record Mending (anc : ℕ → ℕ) (n marks q i : ℕ) (t : List ℕ) (w : ℕ) : Type 0 where
   pub within : i ≤ n
-  pub table : Patched (entry anc n (add marks q)) (entry anc n marks) 64 i t
+  pub table : Patched 0 (entry anc n (add marks q)) (entry anc n marks) 64 i t
   pub changed : w ≡ setOf (λ p. eqb (parent anc marks p) q) i
 
 pub mending-start : (anc : ℕ → ℕ) (n marks q : ℕ) (t : List ℕ) → t ≡ fresh anc n marks → Mending anc n marks q 0 t 0
 unfolding fresh
 mending-start anc n marks q t e = record {
   within = omega arith;
-  table = patched-start (entry anc n (add marks q)) (entry anc n marks) 64 t e;
+  table = patched-start 0 (entry anc n (add marks q)) (entry anc n marks) 64 t e;
   changed = sym (setOf-zero (λ p. eqb (parent anc marks p) q));
 }
 
@@ -72,7 +72,7 @@ pub mending-put : (anc : ℕ → ℕ) (n marks q i : ℕ) (t : List ℕ) (w afte
     → after ≡ add marks q → v ≡ parent anc after i → t′ ≡ set t i v → s ≡ add w i → w′ ≡ s → Mending anc n marks q (i + 1) t′ w′
 mending-put anc n marks q i t w after v s t′ w′ b m l h ea ev et es ew = record {
   within = omega arith;
-  table = rw et (patched-put (entry anc n (add marks q)) (entry anc n marks) 64 i v t (m .table) (omega arith) (ev ∙ ap (λ (x : ℕ). parent anc x i) ea ∙ sym (entry-below anc n (add marks q) i l)));
+  table = rw et (patched-put 0 (entry anc n (add marks q)) (entry anc n marks) 64 i v t (m .table) (omega arith) (ev ∙ ap (λ (x : ℕ). parent anc x i) ea ∙ sym (entry-below anc n (add marks q) i l)));
   changed = ew ∙ es ∙ setOf-put (λ p. eqb (parent anc marks p) q) i w (m .changed) (eq-eqb (parent anc marks i) q (sym (mending-reads anc n marks q i t w b m l) ∙ h));
 }
 
@@ -82,13 +82,13 @@ mending-keep anc n marks q i t w t′ w′ b m l h et ew =
     let d : parent anc marks i ≡ q → ⊥ = λ x. h (mending-reads anc n marks q i t w b m l ∙ x) in
     record {
       within = omega arith;
-      table = rw et (patched-keep (entry anc n (add marks q)) (entry anc n marks) 64 i t (m .table) (entry-below anc n marks i l ∙ sym (parent-stays anc marks q i d) ∙ sym (entry-below anc n (add marks q) i l)));
+      table = rw et (patched-keep 0 (entry anc n (add marks q)) (entry anc n marks) 64 i t (m .table) (entry-below anc n marks i l ∙ sym (parent-stays anc marks q i d) ∙ sym (entry-below anc n (add marks q) i l)));
       changed = ew ∙ setOf-skip (λ p. eqb (parent anc marks p) q) i w (m .changed) (ne-eqb (parent anc marks i) q d);
     }
 
 pub mending-table : (anc : ℕ → ℕ) (n marks q i : ℕ) (t : List ℕ) (w : ℕ) → Mending anc n marks q i t w → n ≤ i → t ≡ fresh anc n (add marks q)
 unfolding fresh
-mending-table anc n marks q i t w m h = patched-end (entry anc n (add marks q)) (entry anc n marks) 64 i t (m .table) (λ k l. entry-past anc n marks k (omega arith) ∙ sym (entry-past anc n (add marks q) k (omega arith)))
+mending-table anc n marks q i t w m h = patched-end 0 (entry anc n (add marks q)) (entry anc n marks) 64 i t (m .table) (λ k l b. entry-past anc n marks k (omega arith) ∙ sym (entry-past anc n (add marks q) k (omega arith)))
 
 pub mending-moved : (anc : ℕ → ℕ) (n marks q i : ℕ) (t : List ℕ) (w : ℕ) → n ≤ 64 → q < none → Mending anc n marks q i t w → n ≤ i → count (has (minus w (add marks q))) 64 ≡ moved anc n marks q
 unfolding moved
@@ -173,17 +173,17 @@ pointing-end anc n marks p i w r h l e =
 
 pub record Filling (anc : ℕ → ℕ) (n marks i : ℕ) (t : List ℕ) : Type 0 where
   pub within : i ≤ n
-  pub table : Patched (entry anc n marks) (λ k. none) 64 i t
+  pub table : Patched 0 (entry anc n marks) (λ k. none) 64 i t
 
 pub filling-start : (anc : ℕ → ℕ) (n marks : ℕ) → Filling anc n marks 0 (replicate 64 none)
-filling-start anc n marks = record { within = omega arith; table = patched-start (entry anc n marks) (λ k. none) 64 (replicate 64 none) (row-replicate 64 none) }
+filling-start anc n marks = record { within = omega arith; table = patched-start 0 (entry anc n marks) (λ k. none) 64 (replicate 64 none) (row-replicate 64 0 none) }
 
 pub filling-put : (anc : ℕ → ℕ) (n marks i : ℕ) (t : List ℕ) (v : ℕ) → n ≤ 64 → Filling anc n marks i t → i < n → v ≡ parent anc marks i → Filling anc n marks (i + 1) (set t i v)
 filling-put anc n marks i t v b f l e = record {
   within = omega arith;
-  table = patched-put (entry anc n marks) (λ k. none) 64 i v t (f .table) (omega arith) (e ∙ sym (entry-below anc n marks i l));
+  table = patched-put 0 (entry anc n marks) (λ k. none) 64 i v t (f .table) (omega arith) (e ∙ sym (entry-below anc n marks i l));
 }
 
 pub filling-end : (anc : ℕ → ℕ) (n marks i : ℕ) (t : List ℕ) → Filling anc n marks i t → n ≤ i → t ≡ fresh anc n marks
 unfolding fresh
-filling-end anc n marks i t f l = patched-end (entry anc n marks) (λ k. none) 64 i t (f .table) (λ k h. sym (entry-past anc n marks k (omega arith)))
+filling-end anc n marks i t f l = patched-end 0 (entry anc n marks) (λ k. none) 64 i t (f .table) (λ k h b. sym (entry-past anc n marks k (omega arith)))

@@ -16,71 +16,72 @@ use Rattle.sets.proofs.Laws.Bools.{eq-or-ne, lt-or-le, clash, fails, and-i, and
 use Rattle.tree.specs.Tree.{row, entry, fresh, parent}
 use Rattle.tree.specs.Calls.{same}
 
-pub length-row : (f : ℕ → ℕ) (n : ℕ) → length (row f n) ≡ n
-unfolding row
-length-row f zero = refl
-length-row f (suc n) = length-append (row f n) (f n ∷ []) ∙ ap (λ (x : ℕ). x + 1) (length-row f n) ∙ add-one n
+module _ {A : Type 0} where
+  pub length-row : (f : ℕ → A) (n : ℕ) → length (row f n) ≡ n
+  unfolding row
+  length-row f zero = refl
+  length-row f (suc n) = length-append (row f n) (f n ∷ []) ∙ ap (λ (x : ℕ). x + 1) (length-row f n) ∙ add-one n
 
-pub getD-row : (f : ℕ → ℕ) (n k d : ℕ) → k < n → getD (row f n) k d ≡ f k
-unfolding row
-getD-row f zero k d l = absurd (omega arith)
-getD-row f (suc n) k d l = ⊎-elim last (before (getD-row f n k d)) (eq-or-ne k n)
-  where
-    last : k ≡ n → getD (row f n ++ (f n ∷ [])) k d ≡ f k
-    last e =
-        let long : k ≡ length (row f n) + 0 = omega (arith, length-row f n) in
-        ap (λ (i : ℕ). getD (row f n ++ (f n ∷ [])) i d) long ∙ getD-append-add (row f n) (f n ∷ []) 0 d ∙ ap f (sym e)
+  pub getD-row : (f : ℕ → A) (n k : ℕ) (d : A) → k < n → getD (row f n) k d ≡ f k
+  unfolding row
+  getD-row f zero k d l = absurd (omega arith)
+  getD-row f (suc n) k d l = ⊎-elim last (before (getD-row f n k d)) (eq-or-ne k n)
+    where
+      last : k ≡ n → getD (row f n ++ (f n ∷ [])) k d ≡ f k
+      last e =
+          let long : k ≡ length (row f n) + 0 = omega (arith, length-row f n) in
+          ap (λ (i : ℕ). getD (row f n ++ (f n ∷ [])) i d) long ∙ getD-append-add (row f n) (f n ∷ []) 0 d ∙ ap f (sym e)
 
-    before : (k < n → getD (row f n) k d ≡ f k) → (k ≡ n → ⊥) → getD (row f n ++ (f n ∷ [])) k d ≡ f k
-    before ih h = List·getD-append (row f n) (f n ∷ []) d k (omega (arith, length-row f n)) ∙ ih (omega arith)
+      before : (k < n → getD (row f n) k d ≡ f k) → (k ≡ n → ⊥) → getD (row f n ++ (f n ∷ [])) k d ≡ f k
+      before ih h = List·getD-append (row f n) (f n ∷ []) d k (omega (arith, length-row f n)) ∙ ih (omega arith)
 
--- a list with a row's length and entries is the row
-pub row-is : (f : ℕ → ℕ) (m : ℕ) (t : List ℕ) → length t ≡ m → ((k : ℕ) → k < m → getD t k 0 ≡ f k) → t ≡ row f m
-row-is f m t long at = ext-getD 0 t (row f m) (long ∙ sym (length-row f m)) (λ k l. let b : k < m = omega arith in at k b ∙ sym (getD-row f m k 0 b))
+  -- a list with a row's length and entries is the row
+  pub row-is : (d : A) (f : ℕ → A) (m : ℕ) (t : List A) → length t ≡ m → ((k : ℕ) → k < m → getD t k d ≡ f k) → t ≡ row f m
+  row-is d f m t long at = ext-getD d t (row f m) (long ∙ sym (length-row f m)) (λ k l. let b : k < m = omega arith in at k b ∙ sym (getD-row f m k d b))
 
-pub row-cong : (f g : ℕ → ℕ) (m : ℕ) → ((k : ℕ) → k < m → f k ≡ g k) → row f m ≡ row g m
-row-cong f g m h = row-is g m (row f m) (length-row f m) (λ k l. getD-row f m k 0 l ∙ h k l)
+  pub row-cong : (d : A) (f g : ℕ → A) (m : ℕ) → ((k : ℕ) → k < m → f k ≡ g k) → row f m ≡ row g m
+  row-cong d f g m h = row-is d g m (row f m) (length-row f m) (λ k l. getD-row f m k d l ∙ h k l)
 
-pub row-replicate : (m d : ℕ) → replicate m d ≡ row (λ k. d) m
-row-replicate m d = row-is (λ k. d) m (replicate m d) (length-replicate m d) (λ k l. getD-replicate m k d 0 l)
+  pub row-replicate : (m : ℕ) (d e : A) → replicate m e ≡ row (λ k. e) m
+  row-replicate m d e = row-is d (λ k. e) m (replicate m e) (length-replicate m e) (λ k l. getD-replicate m k e d l)
 
--- ---- a table on its way from g to f: the entries before i are f's, the others still g's
+  -- ---- a table on its way from g to f: the entries before i are f's, the others still g's; d is what stands past the end
 
-pub record Patched (f g : ℕ → ℕ) (m i : ℕ) (t : List ℕ) : Type 0 where
-  pub long : length t ≡ m
-  pub done : (k : ℕ) → k < i → k < m → getD t k 0 ≡ f k
-  pub rest : (k : ℕ) → i ≤ k → k < m → getD t k 0 ≡ g k
+  pub record Patched (d : A) (f g : ℕ → A) (m i : ℕ) (t : List A) : Type 0 where
+    pub long : length t ≡ m
+    pub done : (k : ℕ) → k < i → k < m → getD t k d ≡ f k
+    pub rest : (k : ℕ) → i ≤ k → k < m → getD t k d ≡ g k
 
-pub patched-start : (f g : ℕ → ℕ) (m : ℕ) (t : List ℕ) → t ≡ row g m → Patched f g m 0 t
-patched-start f g m t e = record {
-  long = ap length e ∙ length-row g m;
-  done = λ k l. absurd (omega arith);
-  rest = λ k l b. ap (λ (s : List ℕ). getD s k 0) e ∙ getD-row g m k 0 b;
-}
+  pub patched-start : (d : A) (f g : ℕ → A) (m : ℕ) (t : List A) → t ≡ row g m → Patched d f g m 0 t
+  patched-start d f g m t e = record {
+    long = ap length e ∙ length-row g m;
+    done = λ k l. absurd (omega arith);
+    rest = λ k l b. ap (λ (s : List A). getD s k d) e ∙ getD-row g m k d b;
+  }
 
-pub patched-put : (f g : ℕ → ℕ) (m i v : ℕ) (t : List ℕ) → Patched f g m i t → i < m → v ≡ f i → Patched f g m (i + 1) (set t i v)
-patched-put f g m i v t p l e = record {
-  long = length-set t i v ∙ p .long;
-  done = λ k b c. ⊎-elim (λ (q : k ≡ i). here k q) (λ (q : k ≡ i → ⊥). getD-set-other t i k v 0 q ∙ p .done k (omega arith) c) (eq-or-ne k i);
-  rest = λ k b c. getD-set-other t i k v 0 (λ q. omega arith) ∙ p .rest k (omega arith) c;
-}
-  where
-    here : (k : ℕ) → k ≡ i → getD (set t i v) k 0 ≡ f k
-    here k q = ap (λ (j : ℕ). getD (set t i v) j 0) q ∙ getD-set-same t i v 0 (omega (arith, p .long)) ∙ e ∙ ap f (sym q)
+  pub patched-put : (d : A) (f g : ℕ → A) (m i : ℕ) (v : A) (t : List A) → Patched d f g m i t → i < m → v ≡ f i → Patched d f g m (i + 1) (set t i v)
+  patched-put d f g m i v t p l e = record {
+    long = length-set t i v ∙ p .long;
+    done = λ k b c. ⊎-elim (λ (q : k ≡ i). here k q) (λ (q : k ≡ i → ⊥). getD-set-other t i k v d q ∙ p .done k (omega arith) c) (eq-or-ne k i);
+    rest = λ k b c. getD-set-other t i k v d (λ q. omega arith) ∙ p .rest k (omega arith) c;
+  }
+    where
+      here : (k : ℕ) → k ≡ i → getD (set t i v) k d ≡ f k
+      here k q = ap (λ (j : ℕ). getD (set t i v) j d) q ∙ getD-set-same t i v d (omega (arith, p .long)) ∙ e ∙ ap f (sym q)
 
-pub patched-keep : (f g : ℕ → ℕ) (m i : ℕ) (t : List ℕ) → Patched f g m i t → g i ≡ f i → Patched f g m (i + 1) t
-patched-keep f g m i t p e = record {
-  long = p .long;
-  done = λ k b c. ⊎-elim (λ (q : k ≡ i). here k c q) (λ (q : k ≡ i → ⊥). p .done k (omega arith) c) (eq-or-ne k i);
-  rest = λ k b c. p .rest k (omega arith) c;
-}
-  where
-    here : (k : ℕ) → k < m → k ≡ i → getD t k 0 ≡ f k
-    here k c q = p .rest k (omega arith) c ∙ ap g q ∙ e ∙ ap f (sym q)
+  pub patched-keep : (d : A) (f g : ℕ → A) (m i : ℕ) (t : List A) → Patched d f g m i t → g i ≡ f i → Patched d f g m (i + 1) t
+  patched-keep d f g m i t p e = record {
+    long = p .long;
+    done = λ k b c. ⊎-elim (λ (q : k ≡ i). here k c q) (λ (q : k ≡ i → ⊥). p .done k (omega arith) c) (eq-or-ne k i);
+    rest = λ k b c. p .rest k (omega arith) c;
+  }
+    where
+      here : (k : ℕ) → k < m → k ≡ i → getD t k d ≡ f k
+      here k c q = p .rest k (omega arith) c ∙ ap g q ∙ e ∙ ap f (sym q)
 
-pub patched-end : (f g : ℕ → ℕ) (m i : ℕ) (t : List ℕ) → Patched f g m i t → ((k : ℕ) → i ≤ k → g k ≡ f k) → t ≡ row f m
-patched-end f g m i t p h =
-    row-is f m t (p .long) (λ k b. ⊎-elim (λ (l : k < i). p .done k l b) (λ (l : i ≤ k). p .rest k l b ∙ h k l) (lt-or-le k i))
+  pub patched-end : (d : A) (f g : ℕ → A) (m i : ℕ) (t : List A) → Patched d f g m i t → ((k : ℕ) → i ≤ k → k < m → g k ≡ f k) → t ≡ row f m
+  patched-end d f g m i t p h =
+      row-is d f m t (p .long) (λ k b. ⊎-elim (λ (l : k < i). p .done k l b) (λ (l : i ≤ k). p .rest k l b ∙ h k l b) (lt-or-le k i))
 
 -- ---- the fresh table
 

@@ -1,0 +1,8 @@
+-- All that the crates above cite of a group.
+pub mod Refusing
+pub mod Planning
+pub mod Net
+pub mod Forwarding
+pub mod Ordering
+pub mod Stepping
+pub mod Starting

@@ -1,0 +1,89 @@
+-- Start along its code: the records and the rows are filled from the front. Assumes nothing.
+use mathlib.Core.Path.{_≡_, sym, ap, ap₂, subst, _∙_}
+use mathlib.Core.Bool.{Bool, true, false}
+use mathlib.Core.List.{List, []}
+use Prim.Native.Nat.{ℕ, _+_, _≤_, _<_}
+use native.Mathlib.Omega.{arith}
+use lib.ListN.{set, replicate}
+use borrow.Author.Tests.{lt-ltb, le-ltb}
+use Rattle.sets.specs.Sets.{none}
+use Rattle.tree.specs.Tree.{row, fresh}
+use Rattle.tree.specs.Calls.{wrongSize}
+use Rattle.tree.proofs.Laws.Rows.{Patched, patched-start, patched-put, patched-end, row-replicate}
+use Rattle.rank.specs.declared.Rank.{Rank}
+use Rattle.rank.specs.declared.Message.{Message}
+use Rattle.rank.specs.Records.{freshRank}
+use Rattle.rank.specs.Order.{Kept}
+use Rattle.group.specs.declared.State.{State}
+use Rattle.group.specs.declared.Started.{Started}
+use Rattle.group.specs.Net.{zeroMessage}
+use Rattle.group.specs.States.{zeroRank, joined}
+use Rattle.group.specs.Starting.{firstRank, firstRow, freshState, emptyState, started}
+
+-- a place is filled up to i
+pub record Filled {A : Type 0} (d : A) (f : ℕ → A) (e : A) (n i : ℕ) (t : List A) : Type 0 where
+  pub within : i ≤ n
+  pub table : Patched d f (λ k. e) 64 i t
+
+pub filled-start : {A : Type 0} (d : A) (f : ℕ → A) (e : A) (n : ℕ) → Filled d f e n 0 (replicate 64 e)
+filled-start d f e n = record { within = omega arith; table = patched-start d f (λ k. e) 64 (replicate 64 e) (row-replicate 64 d e) }
+
+pub filled-from : {A : Type 0} (d : A) (f : ℕ → A) (e v : A) (n : ℕ) → v ≡ e → Filled d f e n 0 (replicate 64 v)
+filled-from {A} d f e v n q = subst (λ (x : A). Filled d f e n 0 (replicate 64 x)) (sym q) (filled-start d f e n)
+
+filled-put : {A : Type 0} (d : A) (f : ℕ → A) (e : A) (n i : ℕ) (t : List A) (v : A) → n ≤ 64 → Filled d f e n i t → i < n → v ≡ f i → Filled d f e n (i + 1) (set t i v)
+filled-put d f e n i t v s p l q = record { within = omega arith; table = patched-put d f (λ k. e) 64 i v t (p .table) (omega arith) q }
+
+module _ (anc : ℕ → ℕ) (n : ℕ) where
+  first-rank-in : (i : ℕ) → i < n → firstRank anc n i ≡ freshRank anc n i
+  unfolding firstRank
+  first-rank-in i l = rw (lt-ltb i n l)
+
+  first-rank-past : (i : ℕ) → n ≤ i → zeroRank ≡ firstRank anc n i
+  unfolding firstRank
+  first-rank-past i l = rw (le-ltb i n l)
+
+  first-row-in : (i : ℕ) → i < n → firstRow anc n i ≡ fresh anc n 0
+  unfolding firstRow
+  first-row-in i l = rw (lt-ltb i n l)
+
+  first-row-past : (i : ℕ) → n ≤ i → replicate 64 none ≡ firstRow anc n i
+  unfolding firstRow
+  first-row-past i l = rw (le-ltb i n l)
+
+  pub ranks-put : (i : ℕ) (t : List Rank) (v : Rank) → n ≤ 64 → Filled zeroRank (firstRank anc n) zeroRank n i t → i < n → v ≡ freshRank anc n i → Filled zeroRank (firstRank anc n) zeroRank n (i + 1) (set t i v)
+  ranks-put i t v s p l e = filled-put zeroRank (firstRank anc n) zeroRank n i t v s p l (e ∙ sym (first-rank-in i l))
+
+  pub ranks-end : (i : ℕ) (t : List Rank) → Filled zeroRank (firstRank anc n) zeroRank n i t → n ≤ i → t ≡ row (firstRank anc n) 64
+  ranks-end i t p l = patched-end zeroRank (firstRank anc n) (λ k. zeroRank) 64 i t (p .table) (λ k h b. first-rank-past k (omega arith))
+
+  pub rows-put : (i : ℕ) (t : List (List ℕ)) (v : List ℕ) → n ≤ 64 → Filled [] (firstRow anc n) (replicate 64 none) n i t → i < n → v ≡ fresh anc n 0 → Filled [] (firstRow anc n) (replicate 64 none) n (i + 1) (set t i v)
+  rows-put i t v s p l e = filled-put [] (firstRow anc n) (replicate 64 none) n i t v s p l (e ∙ sym (first-row-in i l))
+
+  pub rows-end : (i : ℕ) (t : List (List ℕ)) → Filled [] (firstRow anc n) (replicate 64 none) n i t → n ≤ i → t ≡ row (firstRow anc n) 64
+  rows-end i t p l = patched-end [] (firstRow anc n) (λ k. replicate 64 none) 64 i t (p .table) (λ k h b. first-row-past k (omega arith))
+
+  -- what a fresh rank asks for
+  pub fresh-kept : (i : ℕ) (t : List ℕ) → n ≤ 64 → i < n → t ≡ fresh anc n 0 → Kept anc n i (freshRank anc n i) t
+  unfolding freshRank
+  fresh-kept i t s l e = record { size = s; own = l; table = e }
+
+  pub start-refused : (b : Bool) (u : State) → b ≡ wrongSize n → b ≡ true → u ≡ emptyState → _≡_ {A = Started} (record { answer = 1; state = u }) (started anc n)
+  unfolding started
+  start-refused b u e f g = rw (sym e ∙ f, g)
+
+  pub start-accepted : (b : Bool) (u : State) → b ≡ wrongSize n → b ≡ false → u ≡ freshState anc n → _≡_ {A = Started} (record { answer = 0; state = u }) (started anc n)
+  unfolding started
+  start-accepted b u e f g = rw (sym e ∙ f, g)
+
+pub empty-state : (r : Rank) (m : Message) (u : State) → r ≡ zeroRank → m ≡ zeroMessage
+    → u ≡ joined (record { n = 0; dead = 0; count = 0; ranks = replicate 64 r; net = replicate 128 m }) (replicate 64 (replicate 64 0)) → u ≡ emptyState
+unfolding emptyState
+empty-state r m u e f g = g ∙ ap₂ (λ (x : Rank) (y : Message). joined (record { n = 0; dead = 0; count = 0; ranks = replicate 64 x; net = replicate 128 y }) (replicate 64 (replicate 64 0))) e f
+
+pub fresh-state : (anc : ℕ → ℕ) (n : ℕ) (rs : List Rank) (m : Message) (t : List (List ℕ)) (u : State) → rs ≡ row (firstRank anc n) 64 → m ≡ zeroMessage → t ≡ row (firstRow anc n) 64
+    → u ≡ joined (record { n = n; dead = 0; count = 0; ranks = rs; net = replicate 128 m }) t → u ≡ freshState anc n
+unfolding freshState
+fresh-state anc n rs m t u e f h g =
+    g ∙ ap₂ (λ (x : List Rank) (y : Message). joined (record { n = n; dead = 0; count = 0; ranks = x; net = replicate 128 y }) t) e f
+    ∙ ap (λ (z : List (List ℕ)). joined (record { n = n; dead = 0; count = 0; ranks = row (firstRank anc n) 64; net = replicate 128 zeroMessage }) z) h

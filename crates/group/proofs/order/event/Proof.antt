@@ -1,0 +1,51 @@
+-- `event` meets its contract: at each return the tests on the way pick the definition's case. Assumes nothing.
+use Rattle.group.proofs.Laws.Ordering.{size-positive, event-wrong-size, event-disordered, event-steps, orderly-from}
+use Rattle.tree.proofs.Laws.Calls.{size-le}
+use borrow.Author.Needs.{needs}
+use Rattle.group.proofs.order.event.Statement.{statement}
+use Rattle.group.proofs.order.event.Tie as tie
+
+cast-wrong-size : tie.Need-cast-wrong-size
+cast-wrong-size c = search needs
+
+wrong-size-requires : tie.Need-wrong-size-requires
+wrong-size-requires c κs = search needs
+
+refused-requires : tie.Need-refused-requires
+refused-requires c κs = search needs
+
+returns : tie.Need-returns
+returns c = search event-wrong-size
+
+is-orderly-requires : tie.Need-is-orderly-requires
+is-orderly-requires c κs = (search size-le, search size-positive)
+
+refused-requires-2 : tie.Need-refused-requires-2
+refused-requires-2 c κs = search needs
+
+returns-2 : tie.Need-returns-2
+returns-2 c =
+    let test = c .before .before in
+    event-disordered _ _ _ _ _ _ _ (test .before .before .wrong-size .ensures) (test .before .if1 .left) (test .is-orderly .ensures .0) (c .before .if2 .taken) (c .refused2 .ensures)
+
+step-requires : tie.Need-step-requires
+step-requires c κs = orderly-from _ _ (c .before .is-orderly .ensures .0) (c .if2 .left) (c .before .is-orderly .ensures .1)
+
+returns-3 : tie.Need-returns-3
+returns-3 c =
+    let test = c .before .before in
+    event-steps _ _ _ _ _ _ _ (test .before .before .wrong-size .ensures) (test .before .if1 .left) (test .is-orderly .ensures .0) (c .before .if2 .left) (c .step .ensures)
+
+pub event-spec : {M : Type 1} → statement M
+event-spec =
+    tie.close
+    (tie.spec
+    cast-wrong-size
+    wrong-size-requires
+    refused-requires
+    returns
+    is-orderly-requires
+    refused-requires-2
+    returns-2
+    step-requires
+    returns-3)

@@ -1,0 +1,6 @@
+pub mod Net
+pub mod States
+pub mod Refusing
+pub mod Events
+pub mod Order
+pub mod Starting
