@@ -6,3 +6,6 @@ pub mod Forwarding
 pub mod Ordering
 pub mod Stepping
 pub mod Starting
+pub mod Acting
+pub mod Lists
+pub mod Preserving

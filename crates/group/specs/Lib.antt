@@ -4,3 +4,4 @@ pub mod Refusing
 pub mod Events
 pub mod Order
 pub mod Starting
+pub mod Examples

@@ -35,19 +35,19 @@ filled-put : {A : Type 0} (d : A) (f : ℕ → A) (e : A) (n i : ℕ) (t : List 
 filled-put d f e n i t v s p l q = record { within = omega arith; table = patched-put d f (λ k. e) 64 i v t (p .table) (omega arith) q }
 
 module _ (anc : ℕ → ℕ) (n : ℕ) where
-  first-rank-in : (i : ℕ) → i < n → firstRank anc n i ≡ freshRank anc n i
+  pub first-rank-in : (i : ℕ) → i < n → firstRank anc n i ≡ freshRank anc n i
   unfolding firstRank
   first-rank-in i l = rw (lt-ltb i n l)
 
-  first-rank-past : (i : ℕ) → n ≤ i → zeroRank ≡ firstRank anc n i
+  pub first-rank-past : (i : ℕ) → n ≤ i → zeroRank ≡ firstRank anc n i
   unfolding firstRank
   first-rank-past i l = rw (le-ltb i n l)
 
-  first-row-in : (i : ℕ) → i < n → firstRow anc n i ≡ fresh anc n 0
+  pub first-row-in : (i : ℕ) → i < n → firstRow anc n i ≡ fresh anc n 0
   unfolding firstRow
   first-row-in i l = rw (lt-ltb i n l)
 
-  first-row-past : (i : ℕ) → n ≤ i → replicate 64 none ≡ firstRow anc n i
+  pub first-row-past : (i : ℕ) → n ≤ i → replicate 64 none ≡ firstRow anc n i
   unfolding firstRow
   first-row-past i l = rw (le-ltb i n l)
 

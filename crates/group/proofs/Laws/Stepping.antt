@@ -82,7 +82,7 @@ module _ (anc : ℕ → ℕ) (s : State) (f : Facts anc s) where
       nobody l (inl b) = zero-ends (placeAt s i) (f .vacant i l b)
       nobody l (inr b) = zero-ends (placeAt s i) (List·getD-eq-default (s .group .net) zeroMessage (let h = f .shaped .net-long in let g : length (s .group .net) ≤ i = omega arith in g))
 
-  subject-in : (kind a : ℕ) → subjectOf s kind a < s .group .n
+  pub subject-in : (kind a : ℕ) → subjectOf s kind a < s .group .n
   unfolding subjectOf subject
   subject-in kind a = go (namesPlace kind) (lt-or-le a (s .group .n))
     where

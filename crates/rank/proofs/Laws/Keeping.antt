@@ -75,7 +75,7 @@ module _ (anc : ℕ → ℕ) (n me : ℕ) (small : n ≤ 64) (own : me < n) wher
 
   -- ---- sends
 
-  silent-posted : (marks : ℕ) → Posted n me marks silent
+  pub silent-posted : (marks : ℕ) → Posted n me marks silent
   unfolding silent
   silent-posted marks = record { to-in = within-none n me; kind-known = λ k h. absurd (clash (has 0 k) h (has-zero k)); ask-empty = λ e. refl; ask-root = λ e k l. absurd (omega arith) }
 
