@@ -148,7 +148,7 @@ pub fn plan_event(
 }
 
 // The dead set, with one rank more if it dies.
-fn buried(dead: u64, me: u8, dies: bool) -> u64
+pub fn buried(dead: u64, me: u8, dies: bool) -> u64
     requires { ⌜ me < 64 ⌝ }
     ensures { λ t. ⌜ t ≡ cond dies (add dead me) dead ⌝ }
 {
@@ -159,7 +159,7 @@ fn buried(dead: u64, me: u8, dies: bool) -> u64
 }
 
 // The list after a message has left, if one leaves, and two sends have joined.
-fn forward(
+pub fn forward(
     net: [Message; 128],
     count: u8,
     place: u32,

@@ -7,6 +7,8 @@ mod parts;
 mod refusing;
 mod starting;
 
+pub use events::buried;
+pub use events::forward;
 pub use events::plan_event;
 pub use events::step;
 pub use events::subject;

@@ -136,7 +136,7 @@ vacant-i m e = rw e
 
 -- ---- the whole state
 
-size-pos : (n : ℕ) → wrongSize n ≡ false → 0 < n
+pub size-pos : (n : ℕ) → wrongSize n ≡ false → 0 < n
 unfolding wrongSize
 size-pos n e = pos (λ z. clash (eqb n 0 || ltb 64 n) (or-l (eqb n 0) (ltb 64 n) (eq-eqb n 0 z)) e)
   where

@@ -23,7 +23,7 @@ use Rattle.group.specs.declared.Stepped.{Stepped}
 use Rattle.group.specs.Net.{inFlight, zeroMessage, padded, without}
 use Rattle.group.specs.States.{zeroRank, joined, rankAt, rowAt, placeAt, flying}
 use Rattle.group.specs.Refusing.{namesPlace, noMessage, refusal}
-use Rattle.group.specs.Events.{size, subject, acting, refusing, accepting, afterwards, fitting, planned, posted, placed, applied, refused, carried, subjectOf, planOf, stepped}
+use Rattle.group.specs.Events.{size, idle, subject, acting, refusing, accepting, afterwards, fitting, planned, posted, placed, applied, refused, carried, subjectOf, planOf, stepped}
 use Rattle.group.specs.Order.{Ready, Facts, Orderly}
 use Rattle.group.proofs.Laws.Refusing.{Clean, refusal-none}
 use Rattle.group.proofs.Laws.Ordering.{orderly-facts, places-held}
@@ -66,6 +66,24 @@ planned-accepted anc n dead c kind a b m me r row p e z = first (passes-or-fails
     first (inr h) =
         let q : p ≡ refusing (refusal n dead c kind a b r m) r row = e ∙ rw h in
         absurd (eqb-false (refusal n dead c kind a b r m) 0 h (sym (ap (λ (y : Plan). y .answer) q) ∙ z))
+
+-- A refused plan has its rank do nothing.
+pub planned-refused : (anc : ℕ → ℕ) (n dead c kind a b : ℕ) (m : Message) (me : ℕ) (r : Rank) (row : List ℕ) (p : Plan) → p ≡ planned anc n dead c kind a b m me r row → (p .answer ≡ 0 → ⊥) → p .acted ≡ idle r row
+unfolding planned fitting refusing accepting
+planned-refused anc n dead c kind a b m me r row p e z = first (passes-or-fails (eqb (refusal n dead c kind a b r m) 0))
+  where
+    t : Bool
+    t = ltb 128 (afterwards c kind (acting anc n dead kind b m me r row))
+
+    second : eqb (refusal n dead c kind a b r m) 0 ≡ true → (t ≡ true) ⊎ (t ≡ false) → p .acted ≡ idle r row
+    second h (inl full) = let q : p ≡ refusing 11 r row = e ∙ rw (h, full) in ap (λ (y : Plan). y .acted) q
+    second h (inr free) =
+        let q : p ≡ accepting kind (acting anc n dead kind b m me r row) = e ∙ rw (h, free) in
+        absurd (z (ap (λ (y : Plan). y .answer) q))
+
+    first : (eqb (refusal n dead c kind a b r m) 0 ≡ true) ⊎ (eqb (refusal n dead c kind a b r m) 0 ≡ false) → p .acted ≡ idle r row
+    first (inl h) = second h (passes-or-fails t)
+    first (inr h) = let q : p ≡ refusing (refusal n dead c kind a b r m) r row = e ∙ rw h in ap (λ (y : Plan). y .acted) q
 
 -- ---- what a state in order gives
 

@@ -1,0 +1,4 @@
+-- All that the crates above cite of a schedule.
+pub mod Files
+pub mod Runs
+pub mod Opening

@@ -1,0 +1,45 @@
+-- The checks of a file along the code. Assumes nothing.
+use mathlib.Core.Path.{_≡_, sym, _∙_}
+use mathlib.Core.Bool.{Bool, true, false}
+use mathlib.Core.List.{List}
+use Prim.Native.Nat.{ℕ, _-_, _/_, _%_, _<_, _≤_}
+use lib.ListN.{length, getD}
+use borrow.Author.Tests.{eq-eqb, ne-eqb, lt-ltb, le-ltb}
+use Rattle.tree.specs.Calls.{wrongSize}
+use Rattle.schedule.specs.declared.Header.the-variants.{Good, Short, WrongMark, WrongVersion, WrongSize, TooLong, Broken}
+use Rattle.schedule.specs.Files.{byteAt, shortAt, wrongMark, wrongVersion, broken, header}
+
+pub header-short : (file : List ℕ) → length file < 6 → Short ≡ header file
+unfolding header
+header-short file l = rw (lt-ltb (length file) 6 l)
+
+pub header-mark : (file : List ℕ) (t : Bool) → 6 ≤ length file → t ≡ wrongMark file → t ≡ true → WrongMark ≡ header file
+unfolding header
+header-mark file t l e h = rw (le-ltb (length file) 6 l, sym e ∙ h)
+
+pub header-version : (file : List ℕ) (t : Bool) (v : ℕ) → 6 ≤ length file → t ≡ wrongMark file → t ≡ false → v ≡ shortAt file 3 → (v ≡ 1 → ⊥) → WrongVersion ≡ header file
+unfolding header wrongVersion
+header-version file t v l e h g n = rw (le-ltb (length file) 6 l, sym e ∙ h, ← g, ne-eqb v 1 n)
+
+pub header-size : (file : List ℕ) (t u : Bool) (v : ℕ) → 6 ≤ length file → t ≡ wrongMark file → t ≡ false → v ≡ shortAt file 3 → v ≡ 1
+    → u ≡ wrongSize (getD file 5 0) → u ≡ true → WrongSize ≡ header file
+unfolding header wrongVersion byteAt
+header-size file t u v l e h g o z y = rw (le-ltb (length file) 6 l, sym e ∙ h, sym g ∙ o, sym z ∙ y)
+
+pub header-long : (file : List ℕ) (t u : Bool) (v : ℕ) → 6 ≤ length file → t ≡ wrongMark file → t ≡ false → v ≡ shortAt file 3 → v ≡ 1
+    → u ≡ wrongSize (getD file 5 0) → u ≡ false → 36870 < length file → TooLong ≡ header file
+unfolding header wrongVersion byteAt
+header-long file t u v l e h g o z y m = rw (le-ltb (length file) 6 l, sym e ∙ h, sym g ∙ o, sym z ∙ y, lt-ltb 36870 (length file) m)
+
+pub header-broken : (file : List ℕ) (t u : Bool) (v : ℕ) → 6 ≤ length file → t ≡ wrongMark file → t ≡ false → v ≡ shortAt file 3 → v ≡ 1
+    → u ≡ wrongSize (getD file 5 0) → u ≡ false → length file ≤ 36870 → ((length file - 6) % 9 ≡ 0 → ⊥) → Broken ≡ header file
+unfolding header wrongVersion byteAt broken
+header-broken file t u v l e h g o z y m b =
+    rw (le-ltb (length file) 6 l, sym e ∙ h, sym g ∙ o, sym z ∙ y, le-ltb 36870 (length file) m, ne-eqb ((length file - 6) % 9) 0 b)
+
+pub header-good : (file : List ℕ) (t u : Bool) (v : ℕ) → 6 ≤ length file → t ≡ wrongMark file → t ≡ false → v ≡ shortAt file 3 → v ≡ 1
+    → u ≡ wrongSize (getD file 5 0) → u ≡ false → length file ≤ 36870 → (length file - 6) % 9 ≡ 0
+    → Good (getD file 5 0) ((length file - 6) / 9) ≡ header file
+unfolding header wrongVersion byteAt broken
+header-good file t u v l e h g o z y m b =
+    rw (le-ltb (length file) 6 l, sym e ∙ h, sym g ∙ o, sym z ∙ y, le-ltb 36870 (length file) m, eq-eqb ((length file - 6) % 9) 0 b)

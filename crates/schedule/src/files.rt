@@ -1,0 +1,70 @@
+// The schedule file: its checks and its events.
+use super::Event;
+use super::Header;
+ghost use mathlib.Core.Path.{_≡_};
+ghost use Prim.Native.Nat.{_+_, _*_, _<_, _≤_};
+ghost use lib.ListN.{length};
+ghost use Rattle.schedule.specs.Files.{eventAt, header, numberAt, shortAt, wrongMark};
+
+// A number of two bytes, least byte first.
+fn short_at(file: &[u8], i: usize) -> u32
+    requires { ⌜ i + 2 ≤ length (now file) ⌝ }
+    ensures { λ r. ⌜ r ≡ shortAt (now (file .entry)) i ⌝ }
+    ensures { λ r. ⌜ r < 65536 ⌝ }
+{
+    file[i] as u32 + 256 * (file[i + 1] as u32)
+}
+
+// A number of four bytes, least byte first.
+fn number_at(file: &[u8], i: usize) -> u32
+    requires { ⌜ i + 4 ≤ length (now file) ⌝ }
+    ensures { λ r. ⌜ r ≡ numberAt (now (file .entry)) i ⌝ }
+{
+    short_at(file, i) + 65536 * short_at(file, i + 2)
+}
+
+// The event at a place of the schedule.
+pub fn event_at(file: &[u8], k: usize) -> Event
+    requires { ⌜ 15 + 9 * k ≤ length (now file) ⌝ }
+    ensures { λ r. ⌜ r ≡ eventAt (now (file .entry)) k ⌝ }
+{
+    let at = 6 + 9 * k;
+    Event {
+        kind: file[at] as u32,
+        a: number_at(file, at + 1),
+        b: number_at(file, at + 5),
+    }
+}
+
+// Whether the first three bytes are not AGR.
+fn wrong_mark(file: &[u8]) -> bool
+    requires { ⌜ 6 ≤ length (now file) ⌝ }
+    ensures { λ r. ⌜ r ≡ wrongMark (now (file .entry)) ⌝ }
+{
+    !((file[0] == 65) & ((file[1] == 71) & (file[2] == 82)))
+}
+
+// The checks of a file, in document 01's order.
+pub fn read_header(file: &[u8]) -> Header
+    ensures { λ r. ⌜ r ≡ header (now (file .entry)) ⌝ }
+{
+    if file.len() < 6 {
+        return Header::Short;
+    }
+    if wrong_mark(file) {
+        return Header::WrongMark;
+    }
+    if short_at(file, 3) != 1 {
+        return Header::WrongVersion;
+    }
+    if tree::wrong_size(file[5] as u32) {
+        return Header::WrongSize;
+    }
+    if 36870 < file.len() {
+        return Header::TooLong;
+    }
+    if (file.len() - 6) % 9 != 0 {
+        return Header::Broken;
+    }
+    Header::Good(file[5], ((file.len() - 6) / 9) as u32)
+}

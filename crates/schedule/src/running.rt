@@ -1,0 +1,113 @@
+// The run of a schedule's events.
+use super::Header;
+use super::Ran;
+use super::files;
+use group::Group;
+use group::State;
+ghost use mathlib.Core.Path.{_≡_};
+ghost use Prim.Native.Nat.{_+_, _*_, _≤_};
+ghost use lib.ListN.{length};
+ghost use mathlib.Core.List.{[]};
+ghost use Rattle.sets.specs.Sets.{count, has};
+ghost use Rattle.tree.specs.Tree.{flat};
+ghost use Rattle.group.specs.Order.{Orderly};
+ghost use Rattle.schedule.specs.Runs.{played, refusedRun, run, written};
+
+// Writes an event's answer, how many messages it sent and moved at its three places.
+fn tell(out: &mut [u32], k: usize, answer: u32, first: u64, second: u64, moved: u32)
+    requires { ⌜ 3 * k + 3 ≤ length (now out) ⌝ }
+    ensures { λ _. ⌜ now (out .exit) ≡ written (now (out .entry)) k answer (count (has first) 64 + count (has second) 64) moved ⌝ }
+{
+    let place = 3 * k;
+    out[place] = answer;
+    out[place + 1] = sets::size(first) as u32 + sets::size(second) as u32;
+    out[place + 2] = moved;
+}
+
+// Plays a file's events on a state in order. It holds the state's parts by themselves, so that an event stores only what changes.
+fn play(file: &[u8], total: usize, out: &mut [u32], s: State) -> State
+    requires { ⌜ Orderly flat s ⌝ }
+    requires { ⌜ 6 + 9 * total ≤ length (now file) ⌝ }
+    requires { ⌜ 3 * total ≤ length (now out) ⌝ }
+    ensures { λ r. ⌜ r ≡ played flat (now (file .entry)) total 0 s (now (out .entry)) .state ⌝ }
+    ensures { λ r. ⌜ now (out .exit) ≡ played flat (now (file .entry)) total 0 s (now (out .entry)) .answers ⌝ }
+{
+    let g = s.group;
+    let n = g.n;
+    let mut dead = g.dead;
+    let mut count = g.count;
+    let mut ranks = g.ranks;
+    let mut net = g.net;
+    let mut tables = group::tables_of(s);
+    let mut k: usize = 0;
+    while k < total {
+        let e = files::event_at(file, k);
+        let m = group::at(net, e.a);
+        let me = group::subject(n, e.kind, e.a, m);
+        let r = ranks[me as usize];
+        let row = tables[me as usize];
+        let p = group::plan_event(n, dead, count, e.kind, e.a, e.b, m, me, r, row);
+        let acted = p.acted;
+        let first = acted.first;
+        let second = acted.second;
+        tell(out, k, p.answer, first.to, second.to, acted.moved);
+        k += 1;
+        if p.answer != 0 {
+            continue;
+        }
+        let after = group::forward(net, count, e.a, me, p.leaves, first, second);
+        net = after.net;
+        count = after.count;
+        dead = group::buried(dead, me, p.dies);
+        let rank = acted.rank;
+        let table = acted.row;
+        ranks[me as usize] = rank;
+        tables[me as usize] = table;
+    }
+    let group = Group {
+        n,
+        dead,
+        count,
+        ranks,
+        net,
+    };
+    group::join(group, tables)
+}
+
+// A refused run gives the group of a refused start.
+fn refuse(answer: u32) -> Ran
+    ensures { λ r. ⌜ r .answer ≡ answer ⌝ }
+    ensures { λ r. ⌜ r .state ≡ refusedRun answer [] .state ⌝ }
+{
+    let nobody = group::start(0);
+    let state = nobody.state;
+    Ran { answer, state }
+}
+
+// Entry point: runs a schedule file and writes answer, sent and moved for each event. Refuses with 20, 21, 22, 1, 24, 23 and 25.
+pub fn run(file: &[u8], out: &mut [u32]) -> Ran
+    ensures { λ r. ⌜ r .answer ≡ run flat (now (file .entry)) (now (out .entry)) .answer ⌝ }
+    ensures { λ r. ⌜ r .state ≡ run flat (now (file .entry)) (now (out .entry)) .state ⌝ }
+    ensures { λ r. ⌜ now (out .exit) ≡ run flat (now (file .entry)) (now (out .entry)) .answers ⌝ }
+{
+    match files::read_header(file) {
+        Header::Short => refuse(20),
+        Header::WrongMark => refuse(21),
+        Header::WrongVersion => refuse(22),
+        Header::WrongSize => refuse(1),
+        Header::TooLong => refuse(24),
+        Header::Broken => refuse(23),
+        Header::Good(n, events) => {
+            let total = events as usize;
+            if out.len() < 3 * total {
+                return refuse(25);
+            }
+            let started = group::start(n as u32);
+            let fresh = started.state;
+            Ran {
+                answer: 0,
+                state: play(file, total, out, fresh),
+            }
+        }
+    }
+}
