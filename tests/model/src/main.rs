@@ -1,0 +1,55 @@
+//! A second opinion on schedules, written from document 01 alone.
+//!
+//!     model listing < FILE             the listing that FILE must have
+//!     model schedule SEED > FILE       a random schedule
+//!     model data SEED COUNT DIR        COUNT of them as DIR/000.agr and on, their listings on standard output
+//!     model compare PROGRAM SEED COUNT the program's listings beside the model's
+
+mod compare;
+mod file;
+mod group;
+mod random;
+mod rank;
+mod tree;
+
+use random::{schedule, Random};
+use std::io::{Read, Write};
+use std::process::exit;
+
+fn number(text: &str) -> u64 {
+    text.parse().unwrap_or_else(|_| panic!("{text}: not a number"))
+}
+
+fn data(seed: u64, count: u64, dir: &str) {
+    for k in 0..count {
+        let bytes = schedule(&mut Random::new(seed + k));
+        std::fs::write(format!("{dir}/{k:03}.agr"), &bytes).expect("a file written");
+        print!("{}", file::listing(&bytes));
+    }
+}
+
+fn main() {
+    let words: Vec<String> = std::env::args().skip(1).collect();
+    let words: Vec<&str> = words.iter().map(String::as_str).collect();
+    match words[..] {
+        ["listing"] => {
+            let mut bytes = Vec::new();
+            std::io::stdin().read_to_end(&mut bytes).expect("a file");
+            print!("{}", file::listing(&bytes));
+        }
+        ["schedule", seed] => {
+            let bytes = schedule(&mut Random::new(number(seed)));
+            std::io::stdout().write_all(&bytes).expect("a file written");
+        }
+        ["data", seed, count, dir] => data(number(seed), number(count), dir),
+        ["compare", program, seed, count] => {
+            if !compare::compare(program, number(seed), number(count)) {
+                exit(1);
+            }
+        }
+        _ => {
+            eprintln!("model listing | schedule SEED | data SEED COUNT DIR | compare PROGRAM SEED COUNT");
+            exit(2);
+        }
+    }
+}

@@ -1,0 +1,187 @@
+//! Random schedules from a seed: runs as they happen, runs with many deaths, garbage, damaged files.
+
+use crate::file::{write, MOST};
+use crate::group::{Event, Group, ROOM};
+use crate::rank::Phase;
+
+/// A small generator of numbers, so that a seed means the same everywhere.
+pub struct Random(u64);
+
+impl Random {
+    pub fn new(seed: u64) -> Random {
+        Random(seed)
+    }
+
+    fn next(&mut self) -> u64 {
+        self.0 = self.0.wrapping_add(0x9e37_79b9_7f4a_7c15);
+        let x = (self.0 ^ (self.0 >> 30)).wrapping_mul(0xbf58_476d_1ce4_e5b9);
+        let x = (x ^ (x >> 27)).wrapping_mul(0x94d0_49bb_1331_11eb);
+        x ^ (x >> 31)
+    }
+
+    fn below(&mut self, bound: u32) -> u32 {
+        (self.next() % bound as u64) as u32
+    }
+
+    fn one_in(&mut self, odds: u32) -> bool {
+        self.below(odds) == 0
+    }
+
+    fn pick<T: Copy>(&mut self, from: &[T]) -> Option<T> {
+        if from.is_empty() { None } else { Some(from[self.below(from.len() as u32) as usize]) }
+    }
+
+    fn size(&mut self) -> u32 {
+        match self.below(4) {
+            0 => 1 + self.below(4),
+            1 => 1 + self.below(16),
+            2 => 1 + self.below(64),
+            _ => [1, 2, 3, 7, 8, 31, 32, 33, 63, 64][self.below(10) as usize],
+        }
+    }
+
+    fn word(&mut self) -> u32 {
+        match self.below(3) {
+            0 => self.next() as u32,
+            1 => !(1 << self.below(32)),
+            _ => [0, 1, u32::MAX][self.below(3) as usize],
+        }
+    }
+}
+
+/// How a run is played: one crash in so many events, one notice, and whether messages keep their order.
+struct Manner {
+    crash: u32,
+    notice: u32,
+    reorder: bool,
+}
+
+/// The notices that a living rank has still to get.
+fn owed_notices(g: &Group) -> Vec<(u32, u32)> {
+    let living = (0..g.n).filter(|a| g.lives(*a));
+    living.flat_map(|a| g.dead.iter().map(move |b| (a, *b)))
+        .filter(|(a, b)| !g.ranks[*a as usize].marks.contains(b))
+        .collect()
+}
+
+/// An event that might happen now, or None when nothing is left to do.
+fn likely(random: &mut Random, g: &Group, manner: &Manner) -> Option<Event> {
+    let living: Vec<u32> = (0..g.n).filter(|r| g.lives(*r)).collect();
+    if living.len() > 1 && random.one_in(manner.crash) {
+        return Some(Event { kind: 3, a: random.pick(&living)?, b: 0 });
+    }
+    let notices = owed_notices(g);
+    let outside: Vec<u32> = living.iter().copied().filter(|r| g.ranks[*r as usize].phase == Phase::Outside).collect();
+    if random.one_in(manner.notice) || (outside.is_empty() && g.net.is_empty()) {
+        if let Some((a, b)) = random.pick(&notices) {
+            return Some(Event { kind: 4, a, b });
+        }
+    }
+    if random.one_in(3) || g.net.is_empty() {
+        if let Some(a) = random.pick(&outside) {
+            return Some(Event { kind: 1, a, b: random.word() });
+        }
+    }
+    if g.net.is_empty() {
+        return None;
+    }
+    let a = if manner.reorder { random.below(g.net.len() as u32) } else { 0 };
+    let m = g.net[a as usize];
+    let torn = !g.lives(m.from) || !g.lives(m.to);
+    Some(Event { kind: if torn && random.one_in(3) { 5 } else { 2 }, a, b: 0 })
+}
+
+/// Any numbers, near the limits more often than not.
+fn garbage(random: &mut Random, g: &Group) -> Event {
+    let kind = random.below(8) as u8;
+    let number = |random: &mut Random| match random.below(6) {
+        0 => random.next() as u32,
+        1 => g.n,
+        2 => g.net.len() as u32,
+        3 => 0,
+        _ => random.below(g.n + 1),
+    };
+    let a = number(random);
+    let b = if random.one_in(3) { number(random) } else { 0 };
+    Event { kind, a, b }
+}
+
+fn played(random: &mut Random, n: u32, most: usize, manner: &Manner, mess: u32) -> Vec<Event> {
+    let mut g = Group::start(n);
+    let mut events = Vec::new();
+    while events.len() < most {
+        let e = if mess > 0 && random.one_in(mess) { Some(garbage(random, &g)) } else { likely(random, &g, manner) };
+        let Some(e) = e else { break };
+        g.event(e);
+        events.push(e);
+    }
+    events
+}
+
+/// As document 01's example 11: the leaves report, level after level dies, and the list fills up.
+fn crowded(random: &mut Random) -> Vec<Event> {
+    let mut events: Vec<Event> = (32..64).map(|a| Event { kind: 1, a, b: random.word() }).collect();
+    for level in [16, 8, 4, 2] {
+        events.extend((level..2 * level).map(|a| Event { kind: 3, a, b: 0 }));
+        events.extend((32..64).map(|a| Event { kind: 4, a, b: a / (32 / level) }));
+    }
+    let mut g = Group::start(64);
+    for e in &events {
+        g.event(*e);
+    }
+    assert_eq!(g.net.len(), ROOM);
+    for _ in 0..random.below(200) {
+        let e = if random.one_in(2) { garbage(random, &g) } else { Event { kind: 2, a: random.below(128), b: 0 } };
+        g.event(e);
+        events.push(e);
+    }
+    events
+}
+
+/// A file that may not even begin like one.
+fn damaged(random: &mut Random) -> Vec<u8> {
+    let n = random.size();
+    let manner = Manner { crash: 10, notice: 4, reorder: true };
+    let mut bytes = write(n as u8, &played(random, n, 20, &manner, 5));
+    match random.below(7) {
+        0 => bytes.truncate(random.below(7) as usize),
+        1 => bytes.truncate(random.below(bytes.len() as u32 + 1) as usize),
+        2 => bytes[random.below(3) as usize] ^= 1 << random.below(8),
+        3 => bytes[3 + random.below(2) as usize] = random.next() as u8,
+        4 => bytes[5] = [0, 65, 128, 255][random.below(4) as usize],
+        5 => bytes.push(random.next() as u8),
+        _ => bytes.resize(6 + 9 * MOST + 1 + random.below(9) as usize, 0),
+    }
+    if random.one_in(3) {
+        let place = random.below(6) as usize;
+        if place < bytes.len() {
+            bytes[place] = random.next() as u8;
+        }
+    }
+    bytes
+}
+
+/// A full file: 4,096 events, most of which find nothing to do.
+fn longest(random: &mut Random, n: u32, manner: &Manner) -> Vec<Event> {
+    let mut events = played(random, n, MOST, manner, 3);
+    events.resize(MOST, Event { kind: 2, a: 0, b: 0 });
+    events
+}
+
+/// One schedule file.
+pub fn schedule(random: &mut Random) -> Vec<u8> {
+    let n = random.size();
+    let calm = Manner { crash: 60, notice: 6, reorder: random.one_in(2) };
+    let stormy = Manner { crash: 6, notice: 2 + random.below(20), reorder: true };
+    let events = match random.below(64) {
+        0..=19 => played(random, n, 400, &calm, 0),
+        20..=39 => played(random, n, 600, &stormy, 0),
+        40..=47 => played(random, n, 300, &stormy, 4),
+        48..=51 => played(random, n, 60, &calm, 1),
+        52..=54 => return write(64, &crowded(random)),
+        55 => longest(random, n, &stormy),
+        56 => Vec::new(),
+        _ => return damaged(random),
+    };
+    write(n as u8, &events)
+}

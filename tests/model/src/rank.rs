@@ -1,0 +1,144 @@
+//! Document 01, "What a rank holds" and "What a rank does".
+
+use crate::tree::{children, moved, parent, Set};
+
+#[derive(Clone, Copy, PartialEq, Debug)]
+pub enum Phase {
+    Outside,
+    Gathering,
+    Waiting,
+    Decided,
+}
+
+#[derive(Clone, Copy, PartialEq, Debug)]
+pub enum Body {
+    Up(u32),
+    Down(u32),
+    Ask,
+}
+
+#[derive(Clone)]
+pub struct Rank {
+    n: u32,
+    me: u32,
+    pub phase: Phase,
+    pub marks: Set,
+    heard: Set,
+    owed: Set,
+    word: u32,
+    pub result: u32,
+}
+
+/// What one rule did: the messages it sent, in order, and how many ranks moved.
+#[derive(Default)]
+pub struct Done {
+    pub sends: Vec<(u32, Body)>,
+    pub moved: u32,
+}
+
+impl Rank {
+    pub fn fresh(n: u32, me: u32) -> Rank {
+        let (marks, heard, owed) = (Set::new(), Set::new(), Set::new());
+        Rank { n, me, phase: Phase::Outside, marks, heard, owed, word: u32::MAX, result: 0 }
+    }
+
+    fn parent(&self) -> Option<u32> {
+        parent(&self.marks, self.me)
+    }
+
+    fn children(&self) -> Set {
+        children(self.n, &self.marks, self.me)
+    }
+
+    fn mark(&mut self, q: u32, done: &mut Done) {
+        let before = self.marks.clone();
+        self.marks.insert(q);
+        done.moved += moved(self.n, &before, &self.marks);
+    }
+
+    fn decide(&mut self, x: u32, done: &mut Done) {
+        self.result = x;
+        self.phase = Phase::Decided;
+        let told = self.children().union(&self.owed).copied().collect::<Set>();
+        done.sends.extend(told.difference(&self.marks).map(|r| (*r, Body::Down(x))));
+    }
+
+    fn settle(&mut self, done: &mut Done) {
+        if self.phase != Phase::Gathering || !self.children().is_subset(&self.heard) {
+            return;
+        }
+        match self.parent() {
+            None => self.decide(self.word, done),
+            Some(p) => {
+                done.sends.push((p, Body::Up(self.word)));
+                self.phase = Phase::Waiting;
+            }
+        }
+    }
+
+    pub fn enter(&mut self, w: u32) -> Done {
+        let mut done = Done::default();
+        self.word &= w;
+        self.phase = Phase::Gathering;
+        self.settle(&mut done);
+        done
+    }
+
+    pub fn receive(&mut self, q: u32, body: Body) -> Done {
+        let mut done = Done::default();
+        match body {
+            Body::Up(x) => {
+                if self.phase == Phase::Decided {
+                    done.sends.push((q, Body::Down(self.result)));
+                } else {
+                    self.heard.insert(q);
+                    self.word &= x;
+                }
+                self.settle(&mut done);
+            }
+            Body::Down(x) => {
+                if matches!(self.phase, Phase::Gathering | Phase::Waiting) {
+                    self.decide(x, &mut done);
+                }
+            }
+            Body::Ask => {
+                for r in 0..q {
+                    self.mark(r, &mut done);
+                }
+                if self.phase == Phase::Decided {
+                    done.sends.push((q, Body::Down(self.result)));
+                } else {
+                    self.owed.insert(q);
+                    if self.phase == Phase::Waiting && self.parent() == Some(q) {
+                        done.sends.push((q, Body::Up(self.word)));
+                    }
+                }
+                self.settle(&mut done);
+            }
+        }
+        done
+    }
+
+    pub fn notice(&mut self, q: u32) -> Done {
+        let mut done = Done::default();
+        if self.marks.contains(&q) {
+            return done;
+        }
+        let (old_parent, old_children, of_q) = (self.parent(), self.children(), children(self.n, &self.marks, q));
+        self.mark(q, &mut done);
+        if self.phase == Phase::Waiting && old_parent == Some(q) {
+            match self.parent() {
+                Some(p) => done.sends.push((p, Body::Up(self.word))),
+                None => {
+                    self.heard.clear();
+                    self.phase = Phase::Gathering;
+                    done.sends.extend(self.children().into_iter().map(|c| (c, Body::Ask)));
+                }
+            }
+        } else if self.phase == Phase::Gathering && old_parent.is_none() && old_children.contains(&q) {
+            done.sends.extend(self.children().intersection(&of_q).map(|c| (*c, Body::Ask)));
+        }
+        self.settle(&mut done);
+        done
+    }
+}
