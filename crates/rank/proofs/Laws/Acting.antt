@@ -14,6 +14,7 @@ use Rattle.tree.specs.Tree.{parent, children, fresh, moved}
 use Rattle.tree.specs.Calls.{mended, mendedBelow}
 use Rattle.tree.specs.declared.Mended.{Mended}
 use Rattle.tree.proofs.Laws.Rows.{fresh-at}
+use Rattle.tree.proofs.Laws.Mending.{mended-marks, mended-moved, mended-fresh, below-marks, below-moved, below-fresh}
 use Rattle.tree.proofs.Laws.Parents.{parent-lt}
 use Rattle.tree.proofs.Laws.Children.{child-test}
 use Rattle.sets.proofs.Laws.Members.{minus-minus, minus-none}
@@ -155,12 +156,12 @@ module _ (anc : ℕ → ℕ) where
   view-returns n me r m c w e f = rw (f, e)
 
   pub kept-mended : (n me q : ℕ) (r : Rank) (row : List ℕ) (m : Mended) → Kept anc n me r row → m ≡ mended anc n (r .marks) q → Kept anc n me (viewing anc n me (m .marks) r) (m .table)
-  unfolding viewing mended
-  kept-mended n me q r row m k e = record { size = k .size; own = k .own; table = rw e }
+  unfolding viewing
+  kept-mended n me q r row m k e = record { size = k .size; own = k .own; table = mended-fresh anc n (r .marks) q m e }
 
   pub kept-below : (n me q : ℕ) (r : Rank) (row : List ℕ) (m : Mended) → Kept anc n me r row → m ≡ mendedBelow anc n (r .marks) q → Kept anc n me (viewing anc n me (m .marks) r) (m .table)
-  unfolding viewing mendedBelow
-  kept-below n me q r row m k e = record { size = k .size; own = k .own; table = rw e }
+  unfolding viewing
+  kept-below n me q r row m k e = record { size = k .size; own = k .own; table = below-fresh anc n (r .marks) q m e }
 
   pub kept-seen : (n me q : ℕ) (r v : Rank) (row : List ℕ) (m : Mended) → Kept anc n me r row → m ≡ mended anc n (r .marks) q → v ≡ viewing anc n me (m .marks) r → Kept anc n me v (m .table)
   kept-seen n me q r v row m k e f = rw f (kept-mended n me q r row m k e)
@@ -208,8 +209,8 @@ module _ (anc : ℕ → ℕ) where
 
   pub ask-returns : (n me q : ℕ) (r v : Rank) (m : Mended) (s : Said) (a : Acted) → m ≡ mendedBelow anc n (r .marks) q → v ≡ viewing anc n me (m .marks) r → s ≡ asked anc n me q v
       → a ≡ settling anc n me (saying (s .rank) (s .send)) (m .moved) → a ≡ takingAsk anc n me q r
-  unfolding takingAsk saying mendedBelow
-  ask-returns n me q r v m s a em ev es ea = ea ∙ rw (es, ev, em)
+  unfolding takingAsk saying
+  ask-returns n me q r v m s a em ev es ea = ea ∙ rw (es, ev, below-marks anc n (r .marks) q m em, below-moved anc n (r .marks) q m em)
 
   -- ---- notice
 
@@ -275,5 +276,5 @@ module _ (anc : ℕ → ℕ) where
 
   pub notice-returns : (n me q : ℕ) (r v : Rank) (b : Bool) (m : Mended) (s : Said) (a : Acted) → b ≡ has (r .marks) q → b ≡ false → m ≡ mended anc n (r .marks) q → v ≡ viewing anc n me (m .marks) r
       → s ≡ bereaved anc n me q r v → a ≡ settling anc n me (saying (s .rank) (s .send)) (m .moved) → a ≡ noticing anc n me q r
-  unfolding noticing saying mended
-  notice-returns n me q r v b m s a e t em ev es ea = ea ∙ rw (sym e ∙ t, es, ev, em)
+  unfolding noticing saying
+  notice-returns n me q r v b m s a e t em ev es ea = ea ∙ rw (sym e ∙ t, es, ev, mended-marks anc n (r .marks) q m em, mended-moved anc n (r .marks) q m em)

@@ -8,7 +8,7 @@ use native.Mathlib.Omega.{arith}
 use borrow.Author.Tests.{eqb-true, ne-eqb}
 use Rattle.sets.specs.Sets.{none, has, only, add, union, meet, minus, below}
 use Rattle.sets.proofs.Laws.Bools.{passes-or-fails, clash, fails, lt-or-le, or-none, or-cases, and-l, and-not-l}
-use Rattle.sets.proofs.Laws.Members.{has-zero, has-only, has-add-more, has-union, has-meet, minus-l, has-below-ge, has-minus, add-again}
+use Rattle.sets.proofs.Laws.Members.{has-zero, has-only, add-union, has-add-more, has-union, has-meet, minus-l, has-below-ge, has-minus, add-again}
 use Rattle.tree.specs.Tree.{parent, children, fresh, moved}
 use Rattle.tree.specs.Calls.{movedBelow}
 use Rattle.tree.proofs.Laws.Parents.{parent-lt, no-parent, no-parent-all, has-parent, parent-stays, marked-high}
@@ -40,8 +40,7 @@ within-union n me a b x y = record {
 }
 
 pub within-add : (n me a q : ℕ) → Within n me a → q < n → (q ≡ me → ⊥) → Within n me (add a q)
-unfolding add
-within-add n me a q x l d = within-union n me a (only q) x (within-only n me q l d)
+within-add n me a q x l d = subst (Within n me) (sym (add-union a q)) (within-union n me a (only q) x (within-only n me q l d))
 
 within-minus : (n me a b : ℕ) → Within n me a → Within n me (minus a b)
 within-minus n me a b x = record {

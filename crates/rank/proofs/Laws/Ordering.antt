@@ -8,7 +8,7 @@ use lib.Dec.{eqb, leb}
 use lib.ListN.{getD}
 use borrow.Author.Tests.{eqb-true, eqb-false, eq-eqb, ne-eqb, ltb-true, leb-true, le-leb, not-true, not-false}
 use Rattle.sets.specs.Sets.{none, has, minus, below, all}
-use Rattle.sets.proofs.Laws.Bools.{and-assoc, and-true, fails, and-i, and-l, and-r, not-i, clash, or-l, or-r, or-cases, passes-or-fails, all-head, all-tail, all-nil, all-cons, means, meant}
+use Rattle.sets.proofs.Laws.Bools.{and-assoc, and-true, fails, and-i, and-l, and-r, not-i, clash, or-l, or-r, or-cases, passes-or-fails, all-head, all-tail, all-nil, all-step, all-cons, means, meant}
 use Rattle.sets.proofs.Laws.Members.{has-zero, has-below, minus-not, none-in, minus-l, minus-r, has-below-lt}
 use Rattle.tree.specs.Tree.{parent, children, fresh}
 use Rattle.tree.specs.Calls.{same}
@@ -93,8 +93,7 @@ unfresh anc n me r row t k e f g =
     clash (same row t) (subst (λ (x : List ℕ). same row x ≡ true) (in-order-facts anc n me r row h .1 ∙ sym e) (same-refl row)) (sym f ∙ not-true k g)))
 
 nine : (a b c d e f g h i s : Bool) → s ≡ true → a && b && c && d && e && f && g && h && i ≡ all (a ∷ b ∷ c ∷ d ∷ s ∷ e ∷ f ∷ g ∷ h ∷ i ∷ [])
-unfolding all
-nine a b c d e f g h i s z = rw z (simp (and-assoc, and-true))
+nine a b c d e f g h i s z = rw z (simp (all-step, all-nil, and-assoc, and-true))
 
 pub tested : (anc : ℕ → ℕ) (n me : ℕ) (r : Rank) (row t : List ℕ) (k : Bool) (c w : ℕ) (p1 p2 p3 p4 : Bool) → n ≤ 64 → me < n → t ≡ fresh anc n (r .marks) → k ≡ same row t → not k ≡ false
     → c ≡ children anc n (r .marks) me → w ≡ minus c (r .heard) → p1 ≡ proper n me (r .marks) → p2 ≡ proper n me (r .heard) → p3 ≡ proper n me (r .awaited) → p4 ≡ proper n me (r .owed)

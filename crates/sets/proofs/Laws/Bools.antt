@@ -129,6 +129,10 @@ pub all-nil : all [] ≡ true
 unfolding all
 all-nil = refl
 
+pub all-step : (b : Bool) (bs : List Bool) → all (b ∷ bs) ≡ b && all bs
+unfolding all
+all-step b bs = refl
+
 pub all-cons : (b : Bool) (bs : List Bool) → b ≡ true → all bs ≡ true → all (b ∷ bs) ≡ true
 unfolding all
 all-cons b bs p q = and-i b (all bs) p q

@@ -132,6 +132,10 @@ has-only p k = ⊎-elim (λ (h : k < p). below-p h) (λ (h : p ≤ k). from-p h)
     from-p : p ≤ k → has (only p) k ≡ eqb k p
     from-p h = ⊎-elim at (λ (d : k ≡ p → ⊥). above (omega arith)) (eq-or-ne k p)
 
+pub add-union : (w p : ℕ) → add w p ≡ union w (only p)
+unfolding add
+add-union w p = refl
+
 pub has-add : (w p k : ℕ) → has (add w p) k ≡ has w k || eqb k p
 unfolding add
 has-add w p k = has-union w (only p) k ∙ ap (λ (b : Bool). has w k || b) (has-only p k)

@@ -45,6 +45,31 @@ pub mended-again : (anc : ℕ → ℕ) (n marks q : ℕ) (t : List ℕ) (b : Boo
 unfolding mended
 mended-again anc n marks q t b m h e = let k : Marked marks q = sym m ∙ h in rw (e, add-again marks q k, moved-again anc n marks q k)
 
+-- What a mended view holds, for callers: the marks, the fresh table of these marks, and moved.
+pub mended-marks : (anc : ℕ → ℕ) (n marks q : ℕ) (m : Mended) → m ≡ mended anc n marks q → m .marks ≡ add marks q
+unfolding mended
+mended-marks anc n marks q m e = ap (λ (x : Mended). x .marks) e
+
+pub mended-moved : (anc : ℕ → ℕ) (n marks q : ℕ) (m : Mended) → m ≡ mended anc n marks q → m .moved ≡ moved anc n marks q
+unfolding mended
+mended-moved anc n marks q m e = ap (λ (x : Mended). x .moved) e
+
+pub mended-fresh : (anc : ℕ → ℕ) (n marks q : ℕ) (m : Mended) → m ≡ mended anc n marks q → m .table ≡ fresh anc n (m .marks)
+unfolding mended
+mended-fresh anc n marks q m e = rw e refl
+
+pub below-marks : (anc : ℕ → ℕ) (n marks q : ℕ) (m : Mended) → m ≡ mendedBelow anc n marks q → m .marks ≡ union marks (below q)
+unfolding mendedBelow
+below-marks anc n marks q m e = ap (λ (x : Mended). x .marks) e
+
+pub below-moved : (anc : ℕ → ℕ) (n marks q : ℕ) (m : Mended) → m ≡ mendedBelow anc n marks q → m .moved ≡ movedBelow anc n marks q
+unfolding mendedBelow
+below-moved anc n marks q m e = ap (λ (x : Mended). x .moved) e
+
+pub below-fresh : (anc : ℕ → ℕ) (n marks q : ℕ) (m : Mended) → m ≡ mendedBelow anc n marks q → m .table ≡ fresh anc n (m .marks)
+unfolding mendedBelow
+below-fresh anc n marks q m e = rw e refl
+
 pub moved-le : (anc : ℕ → ℕ) (n marks q : ℕ) → moved anc n marks q ≤ n
 unfolding moved
 moved-le anc n marks q = count-le (moves anc marks q) n
