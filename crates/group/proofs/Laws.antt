@@ -9,3 +9,4 @@ pub mod Starting
 pub mod Acting
 pub mod Lists
 pub mod Preserving
+pub mod Knowing

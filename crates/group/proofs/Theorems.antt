@@ -1,28 +1,26 @@
 -- The promises of the group layer, each under a name that says it. Over any ancestor sets. Assumes nothing.
-use mathlib.Core.Path.{_≡_, refl, sym, ap, _∙_}
+use mathlib.Core.Path.{_≡_, refl, ap, _∙_}
 use mathlib.Core.Bool.{Bool, true, false, cond, _||_}
 use mathlib.Core.List.{[]}
 use mathlib.Core.Logic.{⊎-elim}
 use Prim.Native.Nat.{ℕ, _+_, _-_, _≤_, _<_}
 use native.Mathlib.Omega.{arith}
-use lib.Dec.{eqb}
 use lib.Seq.{getD-set-other}
-use borrow.Author.Tests.{eq-eqb, eqb-true}
+use borrow.Author.Tests.{eq-eqb}
 use Rattle.sets.specs.Sets.{has}
-use Rattle.sets.proofs.Laws.Bools.{passes-or-fails, eq-or-ne}
+use Rattle.sets.proofs.Laws.Bools.{eq-or-ne}
 use Rattle.tree.specs.Tree.{moved}
 use Rattle.tree.specs.Calls.{movedBelow}
-use Rattle.tree.proofs.Laws.Mending.{moved-again}
 use Rattle.rank.specs.Words.{ask, up, down}
-use Rattle.rank.specs.Rules.{settling, done, entering, takingUp, takingDown, takingAsk, noticing}
+use Rattle.rank.proofs.Laws.Knowing.{enter-moved, up-moved, down-moved, ask-moved, notice-moved}
 use Rattle.group.specs.declared.State.{State}
 use Rattle.group.specs.States.{zeroRank, rankAt, rowAt, placeAt}
 use Rattle.group.specs.Refusing.{namesPlace}
-use Rattle.group.specs.Events.{size, idle, delivered, acting, placed, applied, refused, carried, subjectOf, planOf, stepped}
+use Rattle.group.specs.Events.{size, idle, delivered, acting, placed, applied, carried, subjectOf, planOf, stepped}
 use Rattle.group.specs.Order.{Orderly}
 use Rattle.group.specs.Starting.{freshState}
 use Rattle.group.proofs.Laws.Ordering.{orderly-facts}
-use Rattle.group.proofs.Laws.Stepping.{Accepted, planned-accepted}
+use Rattle.group.proofs.Laws.Stepping.{step-plan, step-taken}
 use Rattle.group.proofs.Laws.Preserving.{fresh-orderly, step-keeps-order, stepped-cases, posted-long}
 
 -- A fresh group is in order.
@@ -43,23 +41,14 @@ a-step-changes-one-rank anc s kind a b j h =
 
 -- ---- what an accepted event answers
 
-carried-taken : (anc : ℕ → ℕ) (s : State) (kind a b : ℕ) → stepped anc s kind a b .answer ≡ 0 → planOf anc s kind a b .answer ≡ 0
-unfolding stepped carried refused
-carried-taken anc s kind a b e = ⊎-elim (λ (t : eqb (planOf anc s kind a b .answer) 0 ≡ true). eqb-true (planOf anc s kind a b .answer) 0 t) (λ (t : eqb (planOf anc s kind a b .answer) 0 ≡ false). rw t at e) (passes-or-fails (eqb (planOf anc s kind a b .answer) 0))
-
-taken : (anc : ℕ → ℕ) (s : State) (kind a b : ℕ) → stepped anc s kind a b .answer ≡ 0
-    → Accepted anc (s .group .n) (s .group .dead) (s .group .count) kind a b (placeAt s a) (subjectOf s kind a) (rankAt s (subjectOf s kind a)) (rowAt s (subjectOf s kind a)) (planOf anc s kind a b)
-unfolding planOf
-taken anc s kind a b e = planned-accepted anc (s .group .n) (s .group .dead) (s .group .count) kind a b (placeAt s a) (subjectOf s kind a) (rankAt s (subjectOf s kind a)) (rowAt s (subjectOf s kind a)) (planOf anc s kind a b) refl (carried-taken anc s kind a b e)
-
 -- sent equals the number of messages that joined the list: what is in flight afterwards is what stayed and what was sent
 pub sent-is-what-joined : (anc : ℕ → ℕ) (s : State) (kind a b : ℕ) → Orderly anc s → stepped anc s kind a b .answer ≡ 0
     → stepped anc s kind a b .state .group .count ≡ s .group .count - cond (namesPlace kind) 1 0 + stepped anc s kind a b .sent
 unfolding stepped carried applied placed
 sent-is-what-joined anc s kind a b o e =
-    let z : planOf anc s kind a b .answer ≡ 0 = carried-taken anc s kind a b e in
+    let z : planOf anc s kind a b .answer ≡ 0 = step-plan anc s kind a b e in
     rw (eq-eqb (planOf anc s kind a b .answer) 0 z)
-    (posted-long anc s (orderly-facts anc s o) kind a b (planOf anc s kind a b) refl z ∙ sums (taken anc s kind a b e .leaves-is))
+    (posted-long anc s (orderly-facts anc s o) kind a b (planOf anc s kind a b) refl z ∙ sums (step-taken anc s kind a b e .leaves-is))
   where
     sums : planOf anc s kind a b .leaves ≡ namesPlace kind
         → s .group .count - cond (planOf anc s kind a b .leaves) 1 0 + size (planOf anc s kind a b .acted .first) + size (planOf anc s kind a b .acted .second) ≡ s .group .count - cond (namesPlace kind) 1 0 + (size (planOf anc s kind a b .acted .first) + size (planOf anc s kind a b .acted .second))
@@ -67,37 +56,33 @@ sent-is-what-joined anc s kind a b o e =
 
 moved-of : (anc : ℕ → ℕ) (s : State) (kind a b : ℕ) → stepped anc s kind a b .answer ≡ 0 → stepped anc s kind a b .moved ≡ acting anc (s .group .n) (s .group .dead) kind b (placeAt s a) (subjectOf s kind a) (rankAt s (subjectOf s kind a)) (rowAt s (subjectOf s kind a)) .moved
 unfolding stepped carried
-moved-of anc s kind a b e = rw (eq-eqb (planOf anc s kind a b .answer) 0 (carried-taken anc s kind a b e)) (ap (λ x. x .moved) (taken anc s kind a b e .acted-is))
+moved-of anc s kind a b e = rw (eq-eqb (planOf anc s kind a b .answer) 0 (step-plan anc s kind a b e)) (ap (λ x. x .moved) (step-taken anc s kind a b e .acted-is))
 
 -- moved of a notice equals the difference of the fresh tables with and without the mark
 pub moved-of-a-notice : (anc : ℕ → ℕ) (s : State) (a b : ℕ) → stepped anc s 4 a b .answer ≡ 0 → stepped anc s 4 a b .moved ≡ moved anc (s .group .n) (rankAt s (subjectOf s 4 a) .marks) b
-unfolding acting noticing done settling
-moved-of-a-notice anc s a b e = moved-of anc s 4 a b e ∙ go (has (rankAt s (subjectOf s 4 a) .marks) b) refl
-  where
-    go : (t : Bool) → has (rankAt s (subjectOf s 4 a) .marks) b ≡ t → noticing anc (s .group .n) (subjectOf s 4 a) b (rankAt s (subjectOf s 4 a)) .moved ≡ moved anc (s .group .n) (rankAt s (subjectOf s 4 a) .marks) b
-    go true h = rw h (sym (moved-again anc (s .group .n) (rankAt s (subjectOf s 4 a) .marks) b h))
-    go false h = rw h
+unfolding acting
+moved-of-a-notice anc s a b e = moved-of anc s 4 a b e ∙ notice-moved anc (s .group .n) (subjectOf s 4 a) b (rankAt s (subjectOf s 4 a))
 
 -- moved of an ASK that is taken is the sum over its marks
 pub moved-of-an-ask : (anc : ℕ → ℕ) (s : State) (a b : ℕ) → stepped anc s 2 a b .answer ≡ 0 → placeAt s a .kind ≡ ask → has (s .group .dead) (subjectOf s 2 a) || has (rankAt s (subjectOf s 2 a) .marks) (placeAt s a .from) ≡ false
     → stepped anc s 2 a b .moved ≡ movedBelow anc (s .group .n) (rankAt s (subjectOf s 2 a) .marks) (placeAt s a .from)
-unfolding acting delivered takingAsk settling
-moved-of-an-ask anc s a b e k t = moved-of anc s 2 a b e ∙ rw (t, k)
+unfolding acting delivered
+moved-of-an-ask anc s a b e k t = moved-of anc s 2 a b e ∙ rw (t, k) (ask-moved anc (s .group .n) (subjectOf s 2 a) (placeAt s a .from) (rankAt s (subjectOf s 2 a)))
 
 -- every other event moves nothing
 pub moved-of-an-entry : (anc : ℕ → ℕ) (s : State) (a b : ℕ) → stepped anc s 1 a b .answer ≡ 0 → stepped anc s 1 a b .moved ≡ 0
-unfolding acting entering settling
-moved-of-an-entry anc s a b e = moved-of anc s 1 a b e
+unfolding acting
+moved-of-an-entry anc s a b e = moved-of anc s 1 a b e ∙ enter-moved anc (s .group .n) (subjectOf s 1 a) b (rankAt s (subjectOf s 1 a))
 
 pub moved-of-a-word : (anc : ℕ → ℕ) (s : State) (a b : ℕ) → stepped anc s 2 a b .answer ≡ 0 → (placeAt s a .kind ≡ ask → ⊥) → placeAt s a .kind ≤ ask → 0 < placeAt s a .kind → stepped anc s 2 a b .moved ≡ 0
-unfolding acting delivered takingUp takingDown settling done idle
+unfolding acting delivered idle
 moved-of-a-word anc s a b e h l g =
     moved-of anc s 2 a b e ∙ go (has (s .group .dead) (subjectOf s 2 a) || has (rankAt s (subjectOf s 2 a) .marks) (placeAt s a .from)) refl
   where
     go : (t : Bool) → has (s .group .dead) (subjectOf s 2 a) || has (rankAt s (subjectOf s 2 a) .marks) (placeAt s a .from) ≡ t
         → delivered anc (s .group .n) (s .group .dead) (subjectOf s 2 a) (placeAt s a) (rankAt s (subjectOf s 2 a)) (rowAt s (subjectOf s 2 a)) .moved ≡ 0
     go true t = rw t
-    go false t = ⊎-elim (λ (k : placeAt s a .kind ≡ up). rw (t, k)) (λ (k : placeAt s a .kind ≡ up → ⊥). let d : placeAt s a .kind ≡ down = omega arith in rw (t, d)) (eq-or-ne (placeAt s a .kind) up)
+    go false t = ⊎-elim (λ (k : placeAt s a .kind ≡ up). rw (t, k) (up-moved anc (s .group .n) (subjectOf s 2 a) (placeAt s a .from) (placeAt s a .word) (rankAt s (subjectOf s 2 a)))) (λ (k : placeAt s a .kind ≡ up → ⊥). let d : placeAt s a .kind ≡ down = omega arith in rw (t, d) (down-moved anc (s .group .n) (subjectOf s 2 a) (placeAt s a .word) (rankAt s (subjectOf s 2 a)))) (eq-or-ne (placeAt s a .kind) up)
 
 pub moved-of-a-crash : (anc : ℕ → ℕ) (s : State) (a b : ℕ) → stepped anc s 3 a b .answer ≡ 0 → stepped anc s 3 a b .moved ≡ 0
 unfolding acting idle

@@ -4,4 +4,5 @@ pub mod Refusing
 pub mod Events
 pub mod Order
 pub mod Starting
+pub mod Reaching
 pub mod Examples

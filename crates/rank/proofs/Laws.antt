@@ -4,3 +4,4 @@ pub mod Cases
 pub mod Keeping
 pub mod Ordering
 pub mod Letters
+pub mod Knowing

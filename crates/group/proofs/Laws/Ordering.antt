@@ -10,13 +10,13 @@ use lib.ListN.{length, getD, take, replicate}
 use lib.Seq.{ext-getD, getD-take, length-take-le}
 use borrow.Author.Tests.{eqb-true, eqb-false, eq-eqb, ne-eqb, ltb-true, leb-true, le-leb, lt-ltb, le-ltb, not-true, not-false}
 use Rattle.sets.specs.Sets.{none, has, minus, below, every, all}
-use Rattle.sets.proofs.Laws.Bools.{and-assoc, and-true, eq-or-ne, and-i, and-l, and-r, not-i, clash, fails, or-l, lt-or-le, cond-true, cond-false, all-head, all-tail, all-nil, all-cons, means, meant}
+use Rattle.sets.proofs.Laws.Bools.{and-assoc, and-true, eq-or-ne, and-i, and-l, and-r, not-i, clash, fails, lt-or-le, cond-true, cond-false, all-head, all-tail, all-nil, all-cons, means, meant}
 use Rattle.sets.proofs.Laws.Members.{has-zero, minus-not, minus-l, minus-r, none-in, has-below-lt, has-below}
 use Rattle.sets.proofs.Laws.Searches.{every-at, every-i, every-not}
 use Rattle.tree.specs.Tree.{flat}
 use Rattle.tree.specs.Calls.{wrongSize, same}
 use Rattle.tree.proofs.Laws.Rows.{same-eq, same-refl}
-use Rattle.tree.proofs.Laws.Calls.{size-le}
+use Rattle.tree.proofs.Laws.Calls.{size-le, size-pos, size-right}
 use Rattle.rank.specs.declared.Rank.{Rank}
 use Rattle.rank.specs.declared.Message.{Message}
 use Rattle.rank.specs.Words.{up, ask}
@@ -135,17 +135,6 @@ unfolding zeroPlace zeroMessage all
 vacant-i m e = rw e
 
 -- ---- the whole state
-
-pub size-pos : (n : ℕ) → wrongSize n ≡ false → 0 < n
-unfolding wrongSize
-size-pos n e = pos (λ z. clash (eqb n 0 || ltb 64 n) (or-l (eqb n 0) (ltb 64 n) (eq-eqb n 0 z)) e)
-  where
-    pos : (n ≡ 0 → ⊥) → 0 < n
-    pos h = omega arith
-
-size-right : (n : ℕ) → 0 < n → n ≤ 64 → wrongSize n ≡ false
-unfolding wrongSize
-size-right n a b = let e : eqb n 0 ≡ false = ne-eqb n 0 (λ z. omega arith) in rw e (le-ltb 64 n b)
 
 rank-member : (anc : ℕ → ℕ) (s : State) (i : ℕ) → i < s .group .n → rankOrder anc s i ≡ true → memberOrder anc (s .group .n) (s .group .dead) i (rankAt s i) (rowAt s i) ≡ true
 unfolding rankOrder seatOrder

@@ -32,7 +32,7 @@ use Rattle.group.specs.Order.{Lawful, Seated, Facts, Orderly}
 use Rattle.group.proofs.Laws.Net.{padded-long, padded-in, padded-past, length-without}
 use Rattle.group.proofs.Laws.Ordering.{orderly-facts, facts-orderly}
 use Rattle.group.proofs.Laws.Starting.{first-rank-in, first-rank-past, first-row-in, first-row-past}
-use Rattle.group.proofs.Laws.Stepping.{Accepted, planned-accepted, subject-in}
+use Rattle.group.proofs.Laws.Stepping.{Taken, plan-taken, clean-place, clean-rank, clean-notice, subject-named, subject-receives, subject-in}
 use Rattle.group.proofs.Laws.Acting.{Outcome, acting-outcome}
 use Rattle.group.proofs.Laws.Lists.{any-default, AllLawful, lawful-more, all-append, all-without, all-letters}
 
@@ -71,14 +71,6 @@ fresh-orderly anc n low high = facts-orderly anc (freshState anc n) (fresh-facts
 
 -- ---- an accepted event
 
-names-two : (kind : ℕ) → kind ≡ 2 → namesPlace kind ≡ true
-unfolding namesPlace
-names-two kind k = rw k
-
-subject-two : (s : State) (kind a : ℕ) → kind ≡ 2 → placeAt s a .to ≡ subjectOf s kind a
-unfolding subjectOf subject
-subject-two s kind a k = rw (names-two kind k)
-
 last-one : (n dead a : ℕ) → a < n → has dead a ≡ false → minus (below n) (add dead a) ≡ 0 → minus (below n) dead ≡ only a
 last-one n dead a l f e = ext (minus (below n) dead) (only a) (λ k. same-test (has (minus (below n) dead) k) (has (only a) k) (alone k) (him k))
   where
@@ -90,24 +82,18 @@ last-one n dead a l f e = ext (minus (below n) dead) (only a) (λ k. same-test (
     him : (k : ℕ) → has (only a) k ≡ true → has (minus (below n) dead) k ≡ true
     him k t = let q : k ≡ a = eqb-true k a (sym (has-only a k) ∙ t) in subst (λ (x : ℕ). has (minus (below n) dead) x ≡ true) (sym q) (minus-i (below n) dead a (has-below-lt n a l) f)
 
-notice-below : (n kind a b : ℕ) → kind ≡ 4 → wrongRank n kind a b ≡ false → b < n
-unfolding wrongRank
-notice-below n kind a b k t = leb-false n b (fails (leb n b) (λ h. clash (namesRank kind && leb n a || eqb kind 4 && leb n b) (or-r (namesRank kind && leb n a) (eqb kind 4 && leb n b) (and-i (eqb kind 4) (leb n b) (eq-eqb kind 4 k) h)) t))
-
 module _ (anc : ℕ → ℕ) (s : State) (f : Facts anc s) (kind a b : ℕ) (p : Plan) (e : p ≡ planOf anc s kind a b) (z : p .answer ≡ 0) where
   own : subjectOf s kind a < s .group .n
   own = subject-in anc s f kind a
 
-  ok : Accepted anc (s .group .n) (s .group .dead) (s .group .count) kind a b (placeAt s a) (subjectOf s kind a) (rankAt s (subjectOf s kind a)) (rowAt s (subjectOf s kind a)) p
-  unfolding planOf
-  ok = planned-accepted anc (s .group .n) (s .group .dead) (s .group .count) kind a b (placeAt s a) (subjectOf s kind a) (rankAt s (subjectOf s kind a)) (rowAt s (subjectOf s kind a)) p e z
+  ok : Taken anc s kind a b p
+  ok = plan-taken anc s kind a b p e z
 
   -- a kind that names a rank names this one, below n and living
   named : namesRank kind ≡ true → namesPlace kind ≡ false → (subjectOf s kind a ≡ a) × (a < s .group .n) × (has (s .group .dead) a ≡ false)
-  unfolding subjectOf subject wrongRank isDead
   named r q =
-      let l : a < s .group .n = leb-false (s .group .n) a (fails (leb (s .group .n) a) (λ h. clash (namesRank kind && leb (s .group .n) a || eqb kind 4 && leb (s .group .n) b) (or-l (namesRank kind && leb (s .group .n) a) (eqb kind 4 && leb (s .group .n) b) (and-i (namesRank kind) (leb (s .group .n) a) r h)) (ok .clean .rank-right))) in
-      (rw (q, lt-ltb a (s .group .n) l), l, fails (has (s .group .dead) a) (λ h. clash (namesRank kind && has (s .group .dead) a) (and-i (namesRank kind) (has (s .group .dead) a) r h) (ok .clean .alive)))
+      let x = clean-rank _ _ _ _ _ _ _ _ (ok .clean) r in
+      (subject-named s kind a q (x .0), x .0, x .1)
 
   ranks-kind : (kind ≡ 1) ⊎ ((kind ≡ 3) ⊎ (kind ≡ 4)) → (namesRank kind ≡ true) × (namesPlace kind ≡ false)
   unfolding namesRank namesPlace
@@ -115,10 +101,13 @@ module _ (anc : ℕ → ℕ) (s : State) (f : Facts anc s) (kind a b : ℕ) (p :
   ranks-kind (inr (inl k)) = (rw k, rw k)
   ranks-kind (inr (inr k)) = (rw k, rw k)
 
+  places-kind : kind ≡ 2 → namesPlace kind ≡ true
+  unfolding namesPlace
+  places-kind k = rw k
+
   -- a place that is named holds a message
   listed-there : namesPlace kind ≡ true → a < s .group .count
-  unfolding noMessage
-  listed-there q = leb-false (s .group .count) a (fails (leb (s .group .count) a) (λ h. clash (namesPlace kind && leb (s .group .count) a) (and-i (namesPlace kind) (leb (s .group .count) a) q h) (ok .clean .place-right)))
+  listed-there q = clean-place _ _ _ _ _ _ _ _ (ok .clean) q
 
   outcome : Outcome anc (s .group .n) (s .group .dead) (subjectOf s kind a) (p .acted)
   outcome = subst (Outcome anc (s .group .n) (s .group .dead) (subjectOf s kind a)) (sym (ok .acted-is))
@@ -126,19 +115,13 @@ module _ (anc : ℕ → ℕ) (s : State) (f : Facts anc s) (kind a b : ℕ) (p :
       (λ k. ok .clean .is-outside) delivery notice)
     where
       delivery : kind ≡ 2 → Lawful (s .group .n) (s .group .dead) (placeAt s a) × (placeAt s a .to ≡ subjectOf s kind a)
-      delivery k = (f .lawful a (listed-there (two k)), receiver k)
-        where
-          two : kind ≡ 2 → namesPlace kind ≡ true
-          two k = names-two kind k
-
-          receiver : kind ≡ 2 → placeAt s a .to ≡ subjectOf s kind a
-          receiver k = subject-two s kind a k
+      delivery k = (f .lawful a (listed-there (places-kind k)), sym (subject-receives s kind a (places-kind k)))
 
       notice : kind ≡ 4 → (b < s .group .n) × (Rattle.group.specs.Refusing.isLiving (s .group .dead) kind b ≡ false) × (has (s .group .dead) (subjectOf s kind a) ≡ false)
       notice k =
           let t = ranks-kind (inr (inr k)) in
           let x = named (t .0) (t .1) in
-          (notice-below (s .group .n) kind a b k (ok .clean .rank-right), ok .clean .told-dead, subst (λ (y : ℕ). has (s .group .dead) y ≡ false) (sym (x .0)) (x .2))
+          (clean-notice _ _ _ _ _ _ _ _ (ok .clean) k, ok .clean .told-dead, subst (λ (y : ℕ). has (s .group .dead) y ≡ false) (sym (x .0)) (x .2))
 
   -- ---- the list
 

@@ -2,11 +2,13 @@
 use mathlib.Core.Path.{_≡_, sym, ap, ap₂, subst, _∙_}
 use mathlib.Core.Bool.{Bool, true, false}
 use mathlib.Core.List.{List, []}
+use mathlib.Core.Logic.{⊎-elim}
 use Prim.Native.Nat.{ℕ, _+_, _≤_, _<_}
 use native.Mathlib.Omega.{arith}
 use lib.ListN.{set, replicate}
 use borrow.Author.Tests.{lt-ltb, le-ltb}
 use Rattle.sets.specs.Sets.{none}
+use Rattle.sets.proofs.Laws.Bools.{passes-or-fails}
 use Rattle.tree.specs.Tree.{row, fresh}
 use Rattle.tree.specs.Calls.{wrongSize}
 use Rattle.tree.proofs.Laws.Rows.{Patched, patched-start, patched-put, patched-end, row-replicate}
@@ -75,6 +77,14 @@ module _ (anc : ℕ → ℕ) (n : ℕ) where
   pub start-accepted : (b : Bool) (u : State) → b ≡ wrongSize n → b ≡ false → u ≡ freshState anc n → _≡_ {A = Started} (record { answer = 0; state = u }) (started anc n)
   unfolding started
   start-accepted b u e f g = rw (sym e ∙ f, g)
+
+-- an accepted start is of a size from 1 to 64 and gives the fresh group
+pub started-fresh : (anc : ℕ → ℕ) (n : ℕ) → started anc n .answer ≡ 0 → (wrongSize n ≡ false) × (started anc n .state ≡ freshState anc n)
+unfolding started
+started-fresh anc n z = ⊎-elim (λ (t : wrongSize n ≡ true). absurd (bad t)) (λ (t : wrongSize n ≡ false). (t, rw t)) (passes-or-fails (wrongSize n))
+  where
+    bad : wrongSize n ≡ true → ⊥
+    bad t = let x : _≡_ {A = ℕ} 1 0 = rw t at z in omega arith
 
 pub empty-state : (r : Rank) (m : Message) (u : State) → r ≡ zeroRank → m ≡ zeroMessage
     → u ≡ joined (record { n = 0; dead = 0; count = 0; ranks = replicate 64 r; net = replicate 128 m }) (replicate 64 (replicate 64 0)) → u ≡ emptyState

@@ -1,7 +1,7 @@
 -- The step along its code: what a state in order gives the plan and the list, and what carrying a plan out makes of the state.
 -- Assumes nothing.
-use mathlib.Core.Path.{_≡_, sym, ap, subst, _∙_}
-use mathlib.Core.Bool.{Bool, true, false, cond, _&&_}
+use mathlib.Core.Path.{_≡_, refl, sym, ap, subst, _∙_}
+use mathlib.Core.Bool.{Bool, true, false, cond, _&&_, _||_}
 use mathlib.Core.List.{List, [], _++_}
 use mathlib.Core.Logic.{_⊎_, inl, inr, ⊎-elim}
 use Prim.Native.Nat.{ℕ, _+_, _-_, _≤_, _<_}
@@ -10,7 +10,7 @@ use lib.Dec.{eqb, ltb, leb}
 use lib.ListN.{length, getD, set, take, List·getD-eq-default}
 use borrow.Author.Tests.{eq-eqb, ne-eqb, eqb-true, eqb-false, ltb-false, leb-false, lt-ltb, le-ltb}
 use Rattle.sets.specs.Sets.{has, add, count}
-use Rattle.sets.proofs.Laws.Bools.{passes-or-fails, clash, fails, lt-or-le, and-i}
+use Rattle.sets.proofs.Laws.Bools.{passes-or-fails, clash, fails, lt-or-le, and-i, or-l, or-r}
 use Rattle.tree.specs.Tree.{flat}
 use Rattle.rank.specs.declared.Rank.{Rank}
 use Rattle.rank.specs.declared.Message.{Message}
@@ -22,7 +22,7 @@ use Rattle.group.specs.declared.Joined.{Joined}
 use Rattle.group.specs.declared.Stepped.{Stepped}
 use Rattle.group.specs.Net.{inFlight, zeroMessage, padded, without}
 use Rattle.group.specs.States.{zeroRank, joined, rankAt, rowAt, placeAt, flying}
-use Rattle.group.specs.Refusing.{namesPlace, noMessage, refusal}
+use Rattle.group.specs.Refusing.{namesRank, namesPlace, wrongRank, noMessage, isDead, refusal}
 use Rattle.group.specs.Events.{size, idle, subject, acting, refusing, accepting, afterwards, fitting, planned, posted, placed, applied, refused, carried, subjectOf, planOf, stepped}
 use Rattle.group.specs.Order.{Ready, Facts, Orderly}
 use Rattle.group.proofs.Laws.Refusing.{Clean, refusal-none}
@@ -85,6 +85,49 @@ planned-refused anc n dead c kind a b m me r row p e z = first (passes-or-fails 
     first (inl h) = second h (passes-or-fails t)
     first (inr h) = let q : p ≡ refusing (refusal n dead c kind a b r m) r row = e ∙ rw h in ap (λ (y : Plan). y .acted) q
 
+-- ---- what an accepted event is about
+
+-- the plan of this event on this state is accepted
+abbrev pub Taken : (ℕ → ℕ) → State → ℕ → ℕ → ℕ → Plan → Type 0
+Taken anc s kind a b p = Accepted anc (s .group .n) (s .group .dead) (s .group .count) kind a b (placeAt s a) (subjectOf s kind a) (rankAt s (subjectOf s kind a)) (rowAt s (subjectOf s kind a)) p
+
+pub plan-taken : (anc : ℕ → ℕ) (s : State) (kind a b : ℕ) (p : Plan) → p ≡ planOf anc s kind a b → p .answer ≡ 0 → Taken anc s kind a b p
+unfolding planOf
+plan-taken anc s kind a b p e z = planned-accepted anc (s .group .n) (s .group .dead) (s .group .count) kind a b (placeAt s a) (subjectOf s kind a) (rankAt s (subjectOf s kind a)) (rowAt s (subjectOf s kind a)) p e z
+
+pub step-plan : (anc : ℕ → ℕ) (s : State) (kind a b : ℕ) → stepped anc s kind a b .answer ≡ 0 → planOf anc s kind a b .answer ≡ 0
+unfolding stepped carried refused
+step-plan anc s kind a b e = ⊎-elim (λ (t : eqb (planOf anc s kind a b .answer) 0 ≡ true). eqb-true (planOf anc s kind a b .answer) 0 t) (λ (t : eqb (planOf anc s kind a b .answer) 0 ≡ false). rw t at e) (passes-or-fails (eqb (planOf anc s kind a b .answer) 0))
+
+pub step-taken : (anc : ℕ → ℕ) (s : State) (kind a b : ℕ) → stepped anc s kind a b .answer ≡ 0 → Taken anc s kind a b (planOf anc s kind a b)
+step-taken anc s kind a b e = plan-taken anc s kind a b (planOf anc s kind a b) refl (step-plan anc s kind a b e)
+
+-- a place that is named holds a message
+pub clean-place : (n dead c kind a b : ℕ) (r : Rank) (m : Message) → Clean n dead c kind a b r m → namesPlace kind ≡ true → a < c
+unfolding noMessage
+clean-place n dead c kind a b r m x t = leb-false c a (fails (leb c a) (λ h. clash (namesPlace kind && leb c a) (and-i (namesPlace kind) (leb c a) t h) (x .place-right)))
+
+-- a rank that is named is below n and living, and the event is about it
+pub clean-rank : (n dead c kind a b : ℕ) (r : Rank) (m : Message) → Clean n dead c kind a b r m → namesRank kind ≡ true → (a < n) × (has dead a ≡ false)
+unfolding wrongRank isDead
+clean-rank n dead c kind a b r m x t = (
+  leb-false n a (fails (leb n a) (λ h. clash (namesRank kind && leb n a || eqb kind 4 && leb n b) (or-l (namesRank kind && leb n a) (eqb kind 4 && leb n b) (and-i (namesRank kind) (leb n a) t h)) (x .rank-right))),
+  fails (has dead a) (λ h. clash (namesRank kind && has dead a) (and-i (namesRank kind) (has dead a) t h) (x .alive)),
+)
+
+pub subject-named : (s : State) (kind a : ℕ) → namesPlace kind ≡ false → a < s .group .n → subjectOf s kind a ≡ a
+unfolding subjectOf subject
+subject-named s kind a t l = rw (t, lt-ltb a (s .group .n) l)
+
+pub subject-receives : (s : State) (kind a : ℕ) → namesPlace kind ≡ true → subjectOf s kind a ≡ placeAt s a .to
+unfolding subjectOf subject
+subject-receives s kind a t = rw t
+
+-- and the rank that it is told of is below n
+pub clean-notice : (n dead c kind a b : ℕ) (r : Rank) (m : Message) → Clean n dead c kind a b r m → kind ≡ 4 → b < n
+unfolding wrongRank
+clean-notice n dead c kind a b r m x k = leb-false n b (fails (leb n b) (λ h. clash (namesRank kind && leb n a || eqb kind 4 && leb n b) (or-r (namesRank kind && leb n a) (eqb kind 4 && leb n b) (and-i (eqb kind 4) (leb n b) (eq-eqb kind 4 k) h)) (x .rank-right)))
+
 -- ---- what a state in order gives
 
 module _ (anc : ℕ → ℕ) (s : State) (f : Facts anc s) where
@@ -140,10 +183,9 @@ pub step-count : (s : State) → Orderly flat s → s .group .count ≤ 128
 step-count s o = orderly-facts flat s o .count-le
 
 pub step-place : (n dead c kind a b : ℕ) (m : Message) (me : ℕ) (r : Rank) (row : List ℕ) (p : Plan) → p ≡ planned flat n dead c kind a b m me r row → p .answer ≡ 0 → p .leaves ≡ true → a < c
-unfolding noMessage
 step-place n dead c kind a b m me r row p e z t =
     let x = planned-accepted flat n dead c kind a b m me r row p e z in
-    leb-false c a (fails (leb c a) (λ h. clash (namesPlace kind && leb c a) (and-i (namesPlace kind) (leb c a) (sym (x .leaves-is) ∙ t) h) (x .clean .place-right)))
+    clean-place n dead c kind a b r m (x .clean) (sym (x .leaves-is) ∙ t)
 
 pub step-room : (n dead c kind a b : ℕ) (m : Message) (me : ℕ) (r : Rank) (row : List ℕ) (p : Plan) → p ≡ planned flat n dead c kind a b m me r row → p .answer ≡ 0
     → c + size (p .acted .first) + size (p .acted .second) - cond (p .leaves) 1 0 ≤ 128

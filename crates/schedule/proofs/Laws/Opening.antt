@@ -11,12 +11,11 @@ use borrow.Author.Tests.{eqb-true, ltb-false, lt-ltb, le-ltb, not-false}
 use Rattle.sets.proofs.Laws.Bools.{passes-or-fails, clash}
 use Rattle.tree.specs.Tree.{flat}
 use Rattle.tree.specs.Calls.{wrongSize}
-use Rattle.tree.proofs.Laws.Calls.{size-le}
+use Rattle.tree.proofs.Laws.Calls.{size-le, size-pos}
 use Rattle.group.specs.declared.State.{State}
 use Rattle.group.specs.declared.Started.{Started}
 use Rattle.group.specs.Order.{Orderly}
 use Rattle.group.specs.Starting.{freshState, started}
-use Rattle.group.proofs.Laws.Ordering.{size-pos}
 use Rattle.group.proofs.Laws.Preserving.{fresh-orderly}
 use Rattle.schedule.specs.declared.Header.{Header}
 use Rattle.schedule.specs.declared.Header.the-variants.{Good, Short, WrongMark, WrongVersion, WrongSize, TooLong, Broken}

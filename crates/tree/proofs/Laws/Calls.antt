@@ -9,7 +9,7 @@ use mir.Val.{Fits}
 use lib.Dec.{eqb, ltb}
 use borrow.Author.Tests.{ltb-false, lt-ltb, le-ltb, eq-eqb, ne-eqb, not-true, not-false}
 use Rattle.sets.specs.Sets.{has, meet, minus, below}
-use Rattle.sets.proofs.Laws.Bools.{fails, clash, or-r}
+use Rattle.sets.proofs.Laws.Bools.{fails, clash, or-l, or-r}
 use Rattle.tree.specs.Refusals.{accepted, badSize, notInOrder, badRank}
 use Rattle.tree.specs.Tree.{fresh}
 use Rattle.tree.specs.Calls.{mended, wrongSize, same, wrongView, markRefused, marked, told, climbing, climbed}
@@ -24,6 +24,17 @@ use Rattle.tree.proofs.Laws.Rows.{same-eq}
 pub size-le : (n : ℕ) (b : Bool) → b ≡ wrongSize n → b ≡ false → n ≤ 64
 unfolding wrongSize
 size-le n b e f = ltb-false 64 n (fails (ltb 64 n) (λ t. clash (eqb n 0 || ltb 64 n) (or-r (eqb n 0) (ltb 64 n) t) (sym e ∙ f)))
+
+pub size-pos : (n : ℕ) → wrongSize n ≡ false → 0 < n
+unfolding wrongSize
+size-pos n e = pos (λ z. clash (eqb n 0 || ltb 64 n) (or-l (eqb n 0) (ltb 64 n) (eq-eqb n 0 z)) e)
+  where
+    pos : (n ≡ 0 → ⊥) → 0 < n
+    pos h = omega arith
+
+pub size-right : (n : ℕ) → 0 < n → n ≤ 64 → wrongSize n ≡ false
+unfolding wrongSize
+size-right n a b = let e : eqb n 0 ≡ false = ne-eqb n 0 (λ z. omega arith) in rw e (le-ltb 64 n b)
 
 pub size-fits : (n : ℕ) (b : Bool) → b ≡ wrongSize n → b ≡ false → Fits w8 n
 size-fits n b e f = record { fits = omega (arith, size-le n b e f) }

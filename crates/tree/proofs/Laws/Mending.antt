@@ -1,7 +1,7 @@
 -- Mending, over any ancestor sets: one newly known death moves exactly the links that ended at the dead rank, so a table that is
 -- fresh becomes the fresh one by working those out anew. Assumes nothing.
 use mathlib.Core.Path.{_≡_, refl, sym, ap, subst, _∙_}
-use mathlib.Core.Bool.{Bool, true, not, _&&_}
+use mathlib.Core.Bool.{Bool, true, false, not, _&&_}
 use mathlib.Core.List.{List}
 use mathlib.Core.Logic.{⊎-elim}
 use Prim.Native.Nat.{ℕ, zero, suc, _+_, _*_, _≤_, _<_}
@@ -13,14 +13,14 @@ use mir.Val.{Fits}
 use lib.ListN.{getD, set, replicate}
 use borrow.Author.Tests.{eq-eqb, ne-eqb}
 use Rattle.sets.specs.Sets.{none, has, add, minus, union, below, setOf, count}
-use Rattle.sets.proofs.Laws.Bools.{eq-or-ne, and-not-r, not-i, not-o}
+use Rattle.sets.proofs.Laws.Bools.{clash, eq-or-ne, and-not-r, not-i, not-o}
 use Rattle.sets.proofs.Laws.Members.{add-again, setOf-put, setOf-skip, setOf-zero, minus-setOf, union-below-suc, union-below-zero}
 use Rattle.sets.proofs.Laws.Searches.{count-none, count-cong, count-setOf, count-le}
 use Rattle.tree.specs.Tree.{parent, children, entry, fresh, moves, moved}
 use Rattle.tree.specs.Calls.{mended, mendedBelow, movedBelow}
 use Rattle.tree.specs.declared.Mended.{Mended}
 use Rattle.tree.proofs.Laws.Rows.{Patched, patched-start, patched-put, patched-keep, patched-end, entry-below, entry-past, fresh-at, row-replicate}
-use Rattle.tree.proofs.Laws.Parents.{Marked, parent-stays, parent-leaves}
+use Rattle.tree.proofs.Laws.Parents.{Marked, parent-free, parent-stays, parent-leaves}
 
 -- One newly known death moves exactly the links that ended at the dead rank: those move, and no other does.
 pub moves-exactly : (anc : ℕ → ℕ) (marks q p : ℕ) → q < none → not (eqb (parent anc (add marks q) p) (parent anc marks p)) ≡ eqb (parent anc marks p) q
@@ -31,6 +31,17 @@ moves-exactly anc marks q p l = ⊎-elim ended other (eq-or-ne (parent anc marks
 
     other : (parent anc marks p ≡ q → ⊥) → not (eqb (parent anc (add marks q) p) (parent anc marks p)) ≡ eqb (parent anc marks p) q
     other d = not-o (eqb (parent anc (add marks q) p) (parent anc marks p)) (eq-eqb (parent anc (add marks q) p) (parent anc marks p) (parent-stays anc marks q p d)) ∙ sym (ne-eqb (parent anc marks p) q d)
+
+-- The same of the fresh tables, entry by entry.
+pub table-moves-exactly : (anc : ℕ → ℕ) (n marks q p : ℕ) → n ≤ 64 → q < none → p < n
+    → not (eqb (getD (fresh anc n (add marks q)) p 0) (getD (fresh anc n marks) p 0)) ≡ eqb (getD (fresh anc n marks) p 0) q
+table-moves-exactly anc n marks q p h l b = rw (fresh-at anc n (add marks q) p h b, fresh-at anc n marks p h b) (moves-exactly anc marks q p l)
+
+-- In a fresh table no link ends at a marked rank.
+pub table-free : (anc : ℕ → ℕ) (n marks q p : ℕ) → n ≤ 64 → q < none → p < n → Marked marks q → getD (fresh anc n marks) p 0 ≡ q → ⊥
+table-free anc n marks q p h l b k e =
+    let f : parent anc marks p ≡ q = sym (fresh-at anc n marks p h b) ∙ e in
+    clash (has marks q) k (subst (λ (r : ℕ). has marks r ≡ false) f (parent-free anc marks p (λ x. omega arith)))
 
 pub moves-linked : (anc : ℕ → ℕ) (marks q p : ℕ) → q < none → moves anc marks q p ≡ not (has (add marks q) p) && eqb (parent anc marks p) q
 unfolding moves

@@ -1,0 +1,35 @@
+-- The states that a group can be in, and what demand 3 says of two tables.
+use Prim.Native.Nat.{ℕ, _+_, _<_}
+use mathlib.Core.Path.{_≡_}
+use mathlib.Core.Bool.{true, not}
+use mathlib.Core.List.{List}
+use lib.Dec.{eqb}
+use lib.ListN.{getD}
+use Rattle.sets.specs.Sets.{has, union, below}
+use Rattle.tree.specs.Tree.{fresh}
+use Rattle.tree.specs.Refusals.{accepted}
+use Rattle.group.specs.declared.State.{State}
+use Rattle.group.specs.Order.{event}
+use Rattle.group.specs.Starting.{started}
+
+-- A run of the group: from an accepted start of size n, by accepted events.
+pub data Reaches (anc : ℕ → ℕ) (n : ℕ) : State → Type 0 where
+  begun : started anc n .answer ≡ accepted → Reaches anc n (started anc n .state)
+  next : (s : State) (kind a b : ℕ) → Reaches anc n s → event anc s kind a b .answer ≡ accepted → Reaches anc n (event anc s kind a b .state)
+
+-- From one table to the next exactly the links that ended at q have moved: for every rank p below n, its entry differs where it was q,
+-- and nowhere else.
+abbrev pub MovesExactly : ℕ → ℕ → List ℕ → List ℕ → Type 0
+MovesExactly n q before after = (p : ℕ) → p < n → not (eqb (getD after p 0) (getD before p 0)) ≡ eqb (getD before p 0) q
+
+-- The table of a rank once it knows these deaths and that of every rank below k.
+unfoldable pub tableBelow : (ℕ → ℕ) → ℕ → ℕ → ℕ → List ℕ
+tableBelow anc n marks k = fresh anc n (union marks (below k))
+
+-- From one table to another by the marks of an ASK from q, ascending: each mark moves exactly the links that ended at the rank it marks,
+-- and one of a rank that was marked already moves none.
+pub record AskMoves (anc : ℕ → ℕ) (n marks q : ℕ) (before after : List ℕ) : Type 0 where
+  pub begins : tableBelow anc n marks 0 ≡ before
+  pub each : (k : ℕ) → k < q → MovesExactly n k (tableBelow anc n marks k) (tableBelow anc n marks (k + 1))
+  pub known : (k : ℕ) → k < q → has marks k ≡ true → tableBelow anc n marks (k + 1) ≡ tableBelow anc n marks k
+  pub ends : tableBelow anc n marks q ≡ after
