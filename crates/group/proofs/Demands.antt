@@ -1,14 +1,13 @@
 -- Demand 3 as theorems over the states that a group can be in: from an accepted start, by accepted events. Such a state is in order, so each
 -- rank's table is the one worked out afresh, and two fresh tables one death apart differ exactly at the links that ended at the dead rank.
 -- Over any ancestor sets, save the last. Assumes nothing.
-use mathlib.Core.Path.{_≡_, refl, sym, ap, ap₂, subst, _∙_}
-use mathlib.Core.Bool.{Bool, true, false, not, _||_}
+use mathlib.Core.Path.{_≡_, refl, sym, ap, subst, _∙_}
+use mathlib.Core.Bool.{true, false, _||_}
 use mathlib.Core.List.{List}
 use mathlib.Core.Logic.{_⊎_, inl, inr, ⊎-elim}
-use Prim.Native.Nat.{ℕ, suc, _+_, _≤_, _<_}
+use Prim.Native.Nat.{ℕ, _+_, _≤_, _<_}
 use native.Mathlib.Numerals.{add-one}
 use native.Mathlib.Omega.{arith}
-use lib.Dec.{eqb}
 use lib.ListN.{getD}
 use Rattle.sets.specs.Sets.{has, add, union, below}
 use Rattle.sets.proofs.Laws.Bools.{eq-or-ne}
@@ -148,8 +147,8 @@ module _ (anc : ℕ → ℕ) (n : ℕ) (s : State) (run : Reaches anc n s) (kind
 -- ---- a notice
 
 module _ (anc : ℕ → ℕ) (n : ℕ) (s : State) (run : Reaches anc n s) (a b : ℕ) (z : event anc s 4 a b .answer ≡ 0) where
-  -- it is about rank a
-  notice-subject : (subjectOf s 4 a ≡ a) × (a < n) × (b < n)
+  -- A notice is about rank a, and both ranks are of the group.
+  pub notice-subject : (subjectOf s 4 a ≡ a) × (a < n) × (b < n)
   unfolding namesRank namesPlace
   notice-subject =
       let e : s .group .n ≡ n = reached-size anc n s run in
@@ -182,28 +181,35 @@ module _ (anc : ℕ → ℕ) (n : ℕ) (s : State) (run : Reaches anc n s) (a b 
 -- ---- an ASK
 
 module _ (anc : ℕ → ℕ) (n : ℕ) (s : State) (run : Reaches anc n s) (a b : ℕ) (z : event anc s 2 a b .answer ≡ 0) where
-  ask-subject : subjectOf s 2 a ≡ placeAt s a .to
+  -- A delivery is about the message's receiver.
+  pub delivery-subject : subjectOf s 2 a ≡ placeAt s a .to
   unfolding namesPlace
-  ask-subject = subject-receives s 2 a refl
+  delivery-subject = subject-receives s 2 a refl
 
   receiver-below : placeAt s a .to < n
-  receiver-below = subst (λ (i : ℕ). i < n) ask-subject (subject-below anc n s run 2 a b z)
+  receiver-below = subst (λ (i : ℕ). i < n) delivery-subject (subject-below anc n s run 2 a b z)
 
-  -- A message to a dead rank, or from a sender that the receiver has marked, leaves the receiver's row as it was.
+  -- A message to a dead rank, or from a sender that the receiver has marked, leaves every row as it was.
   pub a-dropped-message-moves-nothing : has (s .group .dead) (placeAt s a .to) || has (rankAt s (placeAt s a .to) .marks) (placeAt s a .from) ≡ true
-      → rowAt (event anc s 2 a b .state) (placeAt s a .to) ≡ rowAt s (placeAt s a .to)
-  a-dropped-message-moves-nothing t = subst (λ (i : ℕ). rowAt (event anc s 2 a b .state) i ≡ rowAt s i) ask-subject
-      (subject-stays anc n s run 2 a b z (subject-knows anc n s run 2 a b z (rankAt s (subjectOf s 2 a) .marks)
-      (acting-dropped anc _ _ b _ _ _ _
-      (subst (λ (i : ℕ). has (s .group .dead) i || has (rankAt s i .marks) (placeAt s a .from) ≡ true) (sym ask-subject) t))))
+      → (j : ℕ) → rowAt (event anc s 2 a b .state) j ≡ rowAt s j
+  a-dropped-message-moves-nothing t j =
+      ⊎-elim (λ (q : j ≡ subjectOf s 2 a). subst (λ (i : ℕ). rowAt (event anc s 2 a b .state) i ≡ rowAt s i) (sym q) receiver)
+      (λ (q : j ≡ subjectOf s 2 a → ⊥). other-ranks-stay anc n s run 2 a b z j q .1)
+      (eq-or-ne j (subjectOf s 2 a))
+    where
+      dropped : has (s .group .dead) (subjectOf s 2 a) || has (rankAt s (subjectOf s 2 a) .marks) (placeAt s a .from) ≡ true
+      dropped = subst (λ (i : ℕ). has (s .group .dead) i || has (rankAt s i .marks) (placeAt s a .from) ≡ true) (sym delivery-subject) t
+
+      receiver : rowAt (event anc s 2 a b .state) (subjectOf s 2 a) ≡ rowAt s (subjectOf s 2 a)
+      receiver = subject-stays anc n s run 2 a b z (subject-knows anc n s run 2 a b z (rankAt s (subjectOf s 2 a) .marks) (acting-dropped anc _ _ b _ _ _ _ dropped))
 
   module _ (k : placeAt s a .kind ≡ ask) (t : has (s .group .dead) (placeAt s a .to) || has (rankAt s (placeAt s a .to) .marks) (placeAt s a .from) ≡ false) where
     -- The receiver of an ASK that is taken then knows the death of every rank below the sender besides those that it knew.
     pub an-ask-marks : rankAt (event anc s 2 a b .state) (placeAt s a .to) .marks ≡ union (rankAt s (placeAt s a .to) .marks) (below (placeAt s a .from))
-    an-ask-marks = subst (λ (i : ℕ). rankAt (event anc s 2 a b .state) i .marks ≡ union (rankAt s i .marks) (below (placeAt s a .from))) ask-subject
+    an-ask-marks = subst (λ (i : ℕ). rankAt (event anc s 2 a b .state) i .marks ≡ union (rankAt s i .marks) (below (placeAt s a .from))) delivery-subject
         (subject-knows anc n s run 2 a b z (union (rankAt s (subjectOf s 2 a) .marks) (below (placeAt s a .from)))
         (acting-ask anc _ _ b _ _ _ _ k
-        (subst (λ (i : ℕ). has (s .group .dead) i || has (rankAt s i .marks) (placeAt s a .from) ≡ false) (sym ask-subject) t)))
+        (subst (λ (i : ℕ). has (s .group .dead) i || has (rankAt s i .marks) (placeAt s a .from) ≡ false) (sym delivery-subject) t)))
 
     -- Its marks, one after the other, each move exactly the links that ended at the rank it marks.
     pub an-ask-moves-exactly : AskMoves anc n (rankAt s (placeAt s a .to) .marks) (placeAt s a .from) (rowAt s (placeAt s a .to)) (rowAt (event anc s 2 a b .state) (placeAt s a .to))

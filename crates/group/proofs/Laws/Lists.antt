@@ -15,7 +15,7 @@ use Rattle.rank.specs.declared.Send.{Send}
 use Rattle.rank.specs.declared.Message.{Message}
 use Rattle.rank.specs.Sends.{letter, letters}
 use Rattle.rank.specs.Order.{Posted}
-use Rattle.rank.proofs.Laws.Letters.{length-letters, letter-at}
+use Rattle.rank.proofs.Laws.Letters.{letter-is, length-letters, letter-at}
 use Rattle.group.specs.Net.{without}
 use Rattle.group.specs.Order.{Lawful}
 
@@ -58,8 +58,7 @@ module _ (n dead : ℕ) where
 
   -- what a rank posts
   letter-lawful : (me marks : ℕ) (s : Send) (q : ℕ) → me < n → Posted n me marks s → ((k : ℕ) → has marks k ≡ true → has dead k ≡ true) → has (s .to) q ≡ true → Lawful n dead (letter me s q)
-  unfolding letter
-  letter-lawful me marks s q own p h t = record {
+  letter-lawful me marks s q own p h t = subst (Lawful n dead) (sym (letter-is me s q)) (record {
     from-in = own;
     to-in = p .to-in .inside q t;
     differ = λ e. clash (has (s .to) q) t (subst (λ (x : ℕ). has (s .to) x ≡ false) e (p .to-in .without));
@@ -67,7 +66,7 @@ module _ (n dead : ℕ) where
     kind-high = p .kind-known q t .1;
     ask-empty = p .ask-empty;
     ask-dead = λ e k b. h k (p .ask-root e k b);
-  }
+  })
 
   pub all-letters : (me marks : ℕ) (s : Send) → me < n → Posted n me marks s → ((k : ℕ) → has marks k ≡ true → has dead k ≡ true) → AllLawful n dead (letters me s)
   all-letters me marks s own p h d i l =

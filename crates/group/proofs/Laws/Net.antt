@@ -1,25 +1,26 @@
 -- The 128 places along their code: one message taken out, and the messages of a send written from the first free place on.
 -- Assumes nothing.
 use mathlib.Core.Path.{_≡_, refl, sym, ap, ap₂, subst, _∙_}
-use mathlib.Core.Bool.{Bool, cond, not, _&&_}
-use mathlib.Core.List.{List, [], _∷_, _++_, append-nil, map}
+use mathlib.Core.Bool.{cond}
+use mathlib.Core.List.{List, [], _∷_, _++_, append-nil}
 use mathlib.Core.Logic.{⊎-elim}
 use Prim.Native.Nat.{ℕ, suc, _+_, _-_, _≤_, _<_, _^_}
 use native.Mathlib.Nat.{le-dest}
 use native.Mathlib.Numerals.{add-one}
 use native.Mathlib.Omega.{arith}
-use lib.Dec.{eqb, ltb}
+use lib.Dec.{ltb}
 use lib.ListN.{length, getD, set, take, drop, replicate, length-append, length-drop, length-set, length-replicate, getD-replicate, List·getD-append, List·getD-eq-default}
 use lib.Seq.{getD-append-add, getD-take, getD-drop, take-suc-set, set-append-seam, length-take-le, take-at, append-snoc}
 use borrow.Author.Tests.{lt-ltb, le-ltb}
-use Rattle.sets.specs.Sets.{none, has, only, minus, count, smallest, listed}
+use Rattle.sets.specs.Sets.{none, has, only, minus, count, smallest}
 use Rattle.sets.proofs.Laws.Bools.{lt-or-le, clash}
-use Rattle.sets.proofs.Laws.Members.{has-minus, has-only, has-zero, none-in, has-lt}
-use Rattle.sets.proofs.Laws.Searches.{Smallest, LeastOf, least, smallest-cases, listed-cons, listed-cong, listed-none, length-listed}
+use Rattle.sets.proofs.Laws.Members.{none-in, has-lt}
+use Rattle.sets.proofs.Laws.Searches.{Smallest, LeastOf, least, smallest-cases, count-first}
 use Rattle.tree.proofs.Laws.Rows.{Patched, patched-put, patched-end, row-is}
 use Rattle.rank.specs.declared.Send.{Send}
 use Rattle.rank.specs.declared.Message.{Message}
 use Rattle.rank.specs.Sends.{letter, letters}
+use Rattle.rank.proofs.Laws.Letters.{letter-is, letters-first, letters-none}
 use Rattle.group.specs.declared.Joined.{Joined}
 use Rattle.group.specs.Net.{zeroMessage, padded, without}
 use Rattle.group.specs.Events.{size, placed, joining}
@@ -166,18 +167,10 @@ first-member left q w h e = subst (Smallest (has left) 64) (sym e) (go (smallest
     go r (least s) = s
     go r (LeastOf.empty f) = absurd (h (none-in left (λ k t. clash (has left k) t (f k (has-lt left 64 k w t)))))
 
--- its list begins with that member
-listed-first : (left q : ℕ) → Smallest (has left) 64 q → listed (has left) 64 ≡ q ∷ listed (has (minus left (only q))) 64
-listed-first left q s =
-    listed-cons (has left) 64 q s
-    ∙ ap (λ (l : List ℕ). q ∷ l) (listed-cong (λ k. has left k && not (eqb k q)) (has (minus left (only q))) 64 (λ k l. sym (has-minus left (only q) k ∙ ap (λ (b : Bool). has left k && not b) (has-only q k))))
-
-letters-first : (me : ℕ) (s : Send) (left q : ℕ) → Smallest (has left) 64 q → letters me (toward s left) ≡ letter me s q ∷ letters me (toward s (minus left (only q)))
-unfolding letters letter toward
-letters-first me s left q m = ap (map (letter me s)) (listed-first left q m)
-
-pub size-first : (left q : ℕ) → Smallest (has left) 64 q → count (has left) 64 ≡ suc (count (has (minus left (only q))) 64)
-size-first left q m = sym (length-listed (has left) 64) ∙ ap length (listed-first left q m) ∙ ap suc (length-listed (has (minus left (only q))) 64)
+-- what is still to come begins with the message to that member
+letters-next : (me : ℕ) (s : Send) (left q : ℕ) → Smallest (has left) 64 q → letters me (toward s left) ≡ letter me s q ∷ letters me (toward s (minus left (only q)))
+unfolding toward
+letters-next me s left q m = letters-first me s left q m
 
 -- one message more in the first free place
 padded-more : (net : List Message) (c : ℕ) (m : Message) → length net ≡ 128 → net ≡ padded (take c net) → c < 128 → set net c m ≡ padded (take c net ++ (m ∷ []))
@@ -189,34 +182,39 @@ padded-more net c m long held h =
     ∙ set-append-seam (take c net) zeroMessage (replicate (128 - length (take c net ++ (m ∷ []))) zeroMessage) m
     ∙ sym (append-snoc (take c net) m (replicate (128 - length (take c net ++ (m ∷ []))) zeroMessage))
 
-pub posting-step : (net₀ : List Message) (c₀ me : ℕ) (s : Send) (c : ℕ) (net : List Message) (left q o left′ : ℕ) → Posting net₀ c₀ me s c net left → (left ≡ 0 → ⊥) → q ≡ smallest (has left) 64 none
+posting-letter : (net₀ : List Message) (c₀ me : ℕ) (s : Send) (c : ℕ) (net : List Message) (left q o left′ : ℕ) → Posting net₀ c₀ me s c net left → (left ≡ 0 → ⊥) → q ≡ smallest (has left) 64 none
     → o ≡ only q → left′ ≡ minus left o → left′ < 2 ^ 64 → Posting net₀ c₀ me s (c + 1) (set net c (letter me s q)) left′
-posting-step net₀ c₀ me s c net left q o left′ p h e eo el w =
+posting-letter net₀ c₀ me s c net left q o left′ p h e eo el w =
     let m : Smallest (has left) 64 q = first-member left q (p .word) h e in
-    let sz : count (has left) 64 ≡ suc (count (has (minus left (only q))) 64) = size-first left q m in
+    let sz : count (has left) 64 ≡ suc (count (has (minus left (only q))) 64) = count-first left 64 q m in
     let cl : c < 128 = omega (arith, p .room) in
     let to : left′ ≡ minus left (only q) = el ∙ ap (minus left) eo in
     let took : take (c + 1) (set net c (letter me s q)) ≡ take c net ++ (letter me s q ∷ []) = ap (λ (k : ℕ). take k (set net c (letter me s q))) (add-one c) ∙ take-suc-set net c (letter me s q) (omega (arith, p .long)) in
     record {
       long = length-set net c (letter me s q) ∙ p .long;
       held = padded-more net c (letter me s q) (p .long) (p .held) cl ∙ ap padded (sym took);
-      rest = ap₂ (λ (a : List Message) (b : ℕ). a ++ letters me (toward s b)) took to ∙ append-snoc (take c net) (letter me s q) (letters me (toward s (minus left (only q)))) ∙ ap (λ (l : List Message). take c net ++ l) (sym (letters-first me s left q m)) ∙ p .rest;
+      rest = ap₂ (λ (a : List Message) (b : ℕ). a ++ letters me (toward s b)) took to ∙ append-snoc (take c net) (letter me s q) (letters me (toward s (minus left (only q)))) ∙ ap (λ (l : List Message). take c net ++ l) (sym (letters-next me s left q m)) ∙ p .rest;
       room = subst (λ (x : ℕ). c + 1 + count (has x) 64 ≤ 128) (sym to) (omega (arith, p .room));
       word = w;
     }
 
+-- the same, with the message in fields
+pub posting-step : (net₀ : List Message) (c₀ me : ℕ) (s : Send) (c : ℕ) (net : List Message) (left q o left′ : ℕ) → Posting net₀ c₀ me s c net left → (left ≡ 0 → ⊥) → q ≡ smallest (has left) 64 none
+    → o ≡ only q → left′ ≡ minus left o → left′ < 2 ^ 64 → Posting net₀ c₀ me s (c + 1) (set net c (record { kind = s .kind; from = me; to = q; word = s .word })) left′
+posting-step net₀ c₀ me s c net left q o left′ p h e eo el w = subst (λ (m : Message). Posting net₀ c₀ me s (c + 1) (set net c m) left′) (letter-is me s q) (posting-letter net₀ c₀ me s c net left q o left′ p h e eo el w)
+
 pub posting-place : (net₀ : List Message) (c₀ me : ℕ) (s : Send) (c : ℕ) (net : List Message) (left q : ℕ) → Posting net₀ c₀ me s c net left → (left ≡ 0 → ⊥) → q ≡ smallest (has left) 64 none → c < 128
-posting-place net₀ c₀ me s c net left q p h e = omega (arith, p .room, size-first left q (first-member left q (p .word) h e))
+posting-place net₀ c₀ me s c net left q p h e = omega (arith, p .room, count-first left 64 q (first-member left q (p .word) h e))
 
 pub posting-less : (left q o left′ : ℕ) → left < 2 ^ 64 → (left ≡ 0 → ⊥) → q ≡ smallest (has left) 64 none → o ≡ only q → left′ ≡ minus left o → count (has left′) 64 < count (has left) 64
 posting-less left q o left′ w h e eo el =
-    let sz : count (has left) 64 ≡ suc (count (has (minus left (only q))) 64) = size-first left q (first-member left q w h e) in
+    let sz : count (has left) 64 ≡ suc (count (has (minus left (only q))) 64) = count-first left 64 q (first-member left q w h e) in
     subst (λ (x : ℕ). count (has x) 64 < count (has left) 64) (sym (el ∙ ap (minus left) eo)) (omega arith)
 
 pub posting-end : (net₀ : List Message) (c₀ me : ℕ) (s : Send) (c : ℕ) (net : List Message) (left : ℕ) → Posting net₀ c₀ me s c net left → left ≡ 0 → _≡_ {A = Joined} (record { net = net; count = c }) (joining (take c₀ net₀) me s)
-unfolding joining placed letters toward
+unfolding joining placed toward
 posting-end net₀ c₀ me s c net left p e =
-    let none′ : letters me (toward s left) ≡ [] = ap (λ (x : ℕ). map (letter me (toward s left)) (listed (has x) 64)) e ∙ ap (map (letter me (toward s left))) (listed-none (has 0) 64 (λ k l. has-zero k)) in
+    let none′ : letters me (toward s left) ≡ [] = letters-none me (toward s left) e in
     let all : take c net ≡ take c₀ net₀ ++ letters me s = sym (append-nil (take c net)) ∙ ap (λ (l : List Message). take c net ++ l) (sym none′) ∙ p .rest in
     let lc : c ≡ length (take c net) = sym (length-take-le c net (omega (arith, p .room, p .long))) in
     λ i. record { net = (p .held ∙ ap padded all) i; count = (lc ∙ ap length all) i }

@@ -10,7 +10,7 @@ use lib.ListN.{length, getD, take, replicate}
 use lib.Seq.{ext-getD, getD-take, length-take-le}
 use borrow.Author.Tests.{eqb-true, eqb-false, eq-eqb, ne-eqb, ltb-true, leb-true, le-leb, lt-ltb, le-ltb, not-true, not-false}
 use Rattle.sets.specs.Sets.{none, has, minus, below, every, all}
-use Rattle.sets.proofs.Laws.Bools.{and-assoc, and-true, eq-or-ne, and-i, and-l, and-r, not-i, clash, fails, lt-or-le, cond-true, cond-false, all-head, all-tail, all-nil, all-cons, means, meant}
+use Rattle.sets.proofs.Laws.Bools.{and-assoc, and-true, eq-or-ne, and-i, and-l, and-r, not-i, clash, fails, lt-or-le, cond-true, cond-false, all-head, all-tail, all-nil, all-step, all-cons, means, meant}
 use Rattle.sets.proofs.Laws.Members.{has-zero, minus-not, minus-l, minus-r, none-in, has-below-lt, has-below}
 use Rattle.sets.proofs.Laws.Searches.{every-at, every-i, every-not}
 use Rattle.tree.specs.Tree.{flat}
@@ -79,8 +79,8 @@ zero-record-o r t =
     }
 
 zero-record-i : (r : Rank) → r ≡ zeroRank → zeroRecord r ≡ true
-unfolding zeroRecord zeroRank all
-zero-record-i r e = rw e
+unfolding zeroRecord zeroRank
+zero-record-i r e = rw e (simp (all-step, all-nil))
 
 stranger-o : (r : Rank) (row : List ℕ) → strangerOrder r row ≡ true → (r ≡ zeroRank) × (row ≡ replicate 64 none)
 unfolding strangerOrder
@@ -131,8 +131,8 @@ vacant-o m t =
     λ i. record { kind = eqb-true (m .kind) 0 (all-head _ _ t) i; from = eqb-true (m .from) 0 (all-head _ _ t1) i; to = eqb-true (m .to) 0 (all-head _ _ t2) i; word = eqb-true (m .word) 0 (all-head _ _ t3) i }
 
 vacant-i : (m : Message) → m ≡ zeroMessage → zeroPlace m ≡ true
-unfolding zeroPlace zeroMessage all
-vacant-i m e = rw e
+unfolding zeroPlace zeroMessage
+vacant-i m e = rw e (simp (all-step, all-nil))
 
 -- ---- the whole state
 
@@ -223,12 +223,10 @@ places-held anc s f =
 -- ---- the tests along their code
 
 four : (a b c d : Bool) → a && b && c && d ≡ all (a ∷ b ∷ c ∷ d ∷ [])
-unfolding all
-four a b c d = simp (and-assoc, and-true)
+four a b c d = simp (all-step, all-nil, and-assoc, and-true)
 
 seven : (a b c d e f g : Bool) → a && b && c && d && e && f && g ≡ all (a ∷ b ∷ c ∷ d ∷ e ∷ f ∷ g ∷ [])
-unfolding all
-seven a b c d e f g = simp (and-assoc, and-true)
+seven a b c d e f g = simp (all-step, all-nil, and-assoc, and-true)
 
 pub zero-record-test : (r : Rank) → eqb (r .phase) 0 && eqb (r .marks) 0 && eqb (r .heard) 0 && eqb (r .awaited) 0 && eqb (r .owed) 0 && eqb (r .word) 0 && eqb (r .result) 0 ≡ zeroRecord r
 unfolding zeroRecord
@@ -242,8 +240,7 @@ pub message-far : (n dead : ℕ) (m : Message) → n ≤ m .from → false ≡ m
 message-far n dead m l = sym (fails (messageOrder n dead m) (λ t. let h : m .from < n = message-o n dead m t .from-in in omega arith))
 
 six : (a b c d e f g : Bool) → a ≡ true → b && c && d && e && f && g ≡ all (a ∷ b ∷ c ∷ d ∷ e ∷ f ∷ g ∷ [])
-unfolding all
-six a b c d e f g z = rw z (simp (and-assoc, and-true))
+six a b c d e f g z = rw z (simp (all-step, all-nil, and-assoc, and-true))
 
 pub message-test : (n dead : ℕ) (m : Message) (u : ℕ) (w : Bool) → m .from < n → u ≡ below (m .from) → w ≡ isWithin u dead
     → ltb (m .to) n && not (eqb (m .from) (m .to)) && leb up (m .kind) && leb (m .kind) ask && (not (eqb (m .kind) ask) || eqb (m .word) 0) && (not (eqb (m .kind) ask) || w) ≡ messageOrder n dead m
@@ -279,8 +276,7 @@ pub every-more : (f : ℕ → Bool) (k : ℕ) (t : Bool) → ((j : ℕ) → j < 
 every-more f k t h e g j l = ⊎-elim (λ (q : j ≡ k). ap f q ∙ sym e ∙ not-false t g) (λ (q : j ≡ k → ⊥). h j (omega arith)) (eq-or-ne j k)
 
 five : (z a b c d e : Bool) → z ≡ true → a && b && c && d && e ≡ all (z ∷ a ∷ b ∷ c ∷ d ∷ e ∷ [])
-unfolding all
-five z a b c d e h = rw h (simp (and-assoc, and-true))
+five z a b c d e h = rw h (simp (all-step, all-nil, and-assoc, and-true))
 
 pub orderly-test : (s : State) (u w : ℕ) (q x y : Bool) (t : List (List ℕ)) → 0 < s .group .n → s .group .n ≤ 64 → u ≡ below (s .group .n) → w ≡ minus u (s .group .dead) → q ≡ isWithin (s .group .dead) u → t ≡ s .tables
     → x ≡ every (λ i. seatOrder flat (s .group .n) (s .group .dead) i (getD (s .group .ranks) i zeroRank) (getD t i [])) 64

@@ -1,16 +1,16 @@
 -- A fresh group is in order, and an accepted event on a state in order gives a state in order. Over any ancestor sets. Assumes nothing.
 use mathlib.Core.Path.{_≡_, refl, sym, ap, ap₂, subst, _∙_}
-use mathlib.Core.Bool.{Bool, true, false, cond, _&&_, _||_}
+use mathlib.Core.Bool.{Bool, true, false, cond, _&&_}
 use mathlib.Core.List.{List, [], _++_}
 use mathlib.Core.Logic.{_⊎_, inl, inr, ⊎-elim}
 use Prim.Native.Nat.{ℕ, _+_, _-_, _≤_, _<_}
 use native.Mathlib.Omega.{arith}
-use lib.Dec.{eqb, leb}
+use lib.Dec.{eqb}
 use lib.ListN.{length, getD, set, length-set, length-append, length-replicate, getD-replicate}
 use lib.Seq.{getD-set-same, getD-set-other, length-take-le, getD-take}
-use borrow.Author.Tests.{eqb-true, eq-eqb, leb-false, lt-ltb}
+use borrow.Author.Tests.{eqb-true, eq-eqb}
 use Rattle.sets.specs.Sets.{has, only, add, minus, below}
-use Rattle.sets.proofs.Laws.Bools.{clash, fails, eq-or-ne, and-i, or-l, or-r, or-cases, same-test}
+use Rattle.sets.proofs.Laws.Bools.{clash, eq-or-ne, and-i, or-cases, same-test}
 use Rattle.sets.proofs.Laws.Members.{ext, has-zero, has-only, has-add, has-add-more, has-add-other, has-below-lt, minus-l, minus-r, minus-i}
 use Rattle.tree.specs.Tree.{fresh}
 use Rattle.tree.proofs.Laws.Rows.{length-row, getD-row}
@@ -19,14 +19,14 @@ use Rattle.rank.specs.declared.Message.{Message}
 use Rattle.rank.specs.Sends.{letters}
 use Rattle.rank.specs.Records.{freshRank}
 use Rattle.rank.proofs.Laws.Letters.{length-letters}
-use Rattle.rank.proofs.Laws.Keeping.{fresh-ordered}
+use Rattle.rank.proofs.Laws.Keeping.{fresh-ordered, fresh-marks}
 use Rattle.group.specs.declared.State.{State}
 use Rattle.group.specs.declared.Plan.{Plan}
 use Rattle.group.specs.declared.Stepped.{Stepped}
 use Rattle.group.specs.Net.{zeroMessage, without}
 use Rattle.group.specs.States.{zeroRank, rankAt, rowAt, placeAt, flying}
-use Rattle.group.specs.Refusing.{namesRank, namesPlace, wrongRank, isDead, isLast, noMessage}
-use Rattle.group.specs.Events.{size, subject, posted, placed, applied, refused, carried, subjectOf, planOf, stepped}
+use Rattle.group.specs.Refusing.{namesRank, namesPlace, isLast}
+use Rattle.group.specs.Events.{size, posted, placed, applied, refused, carried, subjectOf, planOf, stepped}
 use Rattle.group.specs.Starting.{firstRank, firstRow, freshState}
 use Rattle.group.specs.Order.{Lawful, Seated, Facts, Orderly}
 use Rattle.group.proofs.Laws.Net.{padded-long, padded-in, padded-past, length-without}
@@ -39,7 +39,7 @@ use Rattle.group.proofs.Laws.Lists.{any-default, AllLawful, lawful-more
 -- ---- a fresh group
 
 pub fresh-facts : (anc : ℕ → ℕ) (n : ℕ) → 0 < n → n ≤ 64 → Facts anc (freshState anc n)
-unfolding freshState rankAt rowAt placeAt freshRank
+unfolding freshState rankAt rowAt placeAt
 fresh-facts anc n low high = record {
   shaped = record { ranks-long = length-row (firstRank anc n) 64; rows-long = length-row (firstRow anc n) 64; net-long = length-replicate 128 zeroMessage };
   size-low = low;
@@ -60,7 +60,7 @@ fresh-facts anc n low high = record {
     line i l = getD-row (firstRow anc n) 64 i [] (omega arith) ∙ first-row-in anc n i l
 
     seat : (i : ℕ) → i < n → Seated anc n 0 i (freshRank anc n i) (fresh anc n 0)
-    seat i l = record { ordered = fresh-ordered anc n i high l; table = refl; marks-dead = λ k h. absurd (clash (has 0 k) h (has-zero k)) }
+    seat i l = record { ordered = fresh-ordered anc n i high l; table = sym (ap (fresh anc n) (fresh-marks anc n i)); marks-dead = λ k h. absurd (clash (has 0 k) (subst (λ (w : ℕ). has w k ≡ true) (fresh-marks anc n i) h) (has-zero k)) }
 
     subst₂′ : (i : ℕ) → i < n → Seated anc n 0 i (getD (Rattle.tree.specs.Tree.row (firstRank anc n) 64) i zeroRank) (getD (Rattle.tree.specs.Tree.row (firstRow anc n) 64) i [])
     subst₂′ i l = rw (here i l, line i l) (seat i l)

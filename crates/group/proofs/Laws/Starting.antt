@@ -15,7 +15,6 @@ use Rattle.tree.proofs.Laws.Rows.{Patched, patched-start, patched-put, patched-
 use Rattle.rank.specs.declared.Rank.{Rank}
 use Rattle.rank.specs.declared.Message.{Message}
 use Rattle.rank.specs.Records.{freshRank}
-use Rattle.rank.specs.Order.{Kept}
 use Rattle.group.specs.declared.State.{State}
 use Rattle.group.specs.declared.Started.{Started}
 use Rattle.group.specs.Net.{zeroMessage}
@@ -64,11 +63,6 @@ module _ (anc : ℕ → ℕ) (n : ℕ) where
 
   pub rows-end : (i : ℕ) (t : List (List ℕ)) → Filled [] (firstRow anc n) (replicate 64 none) n i t → n ≤ i → t ≡ row (firstRow anc n) 64
   rows-end i t p l = patched-end [] (firstRow anc n) (λ k. replicate 64 none) 64 i t (p .table) (λ k h b. first-row-past k (omega arith))
-
-  -- what a fresh rank asks for
-  pub fresh-kept : (i : ℕ) (t : List ℕ) → n ≤ 64 → i < n → t ≡ fresh anc n 0 → Kept anc n i (freshRank anc n i) t
-  unfolding freshRank
-  fresh-kept i t s l e = record { size = s; own = l; table = e }
 
   pub start-refused : (b : Bool) (u : State) → b ≡ wrongSize n → b ≡ true → u ≡ emptyState → _≡_ {A = Started} (record { answer = 1; state = u }) (started anc n)
   unfolding started

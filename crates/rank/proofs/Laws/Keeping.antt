@@ -2,6 +2,7 @@
 -- it ordered, in one place. Over any ancestor sets. Assumes nothing.
 use mathlib.Core.Path.{_≡_, refl, sym, ap, subst, _∙_}
 use mathlib.Core.Bool.{Bool, true, false, cond, not}
+use mathlib.Core.List.{List}
 use mathlib.Core.Logic.{⊎-elim}
 use Prim.Native.Nat.{ℕ, _≤_, _<_}
 use native.Mathlib.Omega.{arith}
@@ -19,7 +20,7 @@ use Rattle.rank.specs.Words.{outside, gathering, waiting, decided}
 use Rattle.rank.specs.Records.{becoming, combining, concluding, owing, parentOf, childrenOf, awaiting, freshRank, hearing, viewing}
 use Rattle.rank.specs.Sends.{silent, reports, tells, asks}
 use Rattle.rank.specs.Rules.{saying, deciding, settled, done, settling, entering, raised, takingUp, lowered, takingDown, asked, takingAsk, inheriting, bereaved, noticing}
-use Rattle.rank.specs.Order.{Within, Fair, Ordered, Posted, Sound, Steady}
+use Rattle.rank.specs.Order.{Kept, Within, Fair, Ordered, Posted, Sound, Steady}
 use Rattle.rank.proofs.Laws.Cases.{settled-by, raised-by, lowered-by, asked-by, orphaned-by, bereaved-by}
 
 -- ---- sets within the group and without the own rank
@@ -259,6 +260,14 @@ module _ (anc : ℕ → ℕ) (n me : ℕ) (small : n ≤ 64) (own : me < n) wher
     fair = record { marks-in = within-none n me; heard-in = within-none n me; owed-in = within-none n me; awaits = refl; waits = λ e. absurd (omega arith); unless = λ e. refl; known = omega arith };
     gathers = λ e. absurd (omega arith);
   }
+
+-- It knows of no death, and its row is the table of that view.
+pub fresh-marks : (anc : ℕ → ℕ) (n me : ℕ) → freshRank anc n me .marks ≡ 0
+unfolding freshRank
+fresh-marks anc n me = refl
+
+pub fresh-kept : (anc : ℕ → ℕ) (n me : ℕ) (row : List ℕ) → n ≤ 64 → me < n → row ≡ fresh anc n 0 → Kept anc n me (freshRank anc n me) row
+fresh-kept anc n me row s l e = record { size = s; own = l; table = e ∙ sym (ap (fresh anc n) (fresh-marks anc n me)) }
 
 -- ---- phases move as the rules say
 

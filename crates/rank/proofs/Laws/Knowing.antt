@@ -15,7 +15,7 @@ use Rattle.rank.specs.declared.Said.{Said}
 use Rattle.rank.specs.Words.{gathering}
 use Rattle.rank.specs.Records.{becoming, combining, concluding, owing, hearing, viewing}
 use Rattle.rank.specs.Sends.{silent}
-use Rattle.rank.specs.Rules.{saying, deciding, settled, done, settling, entering, raised, takingUp, lowered, takingDown, asked, takingAsk, inheriting, bereaved, noticing}
+use Rattle.rank.specs.Rules.{saying, deciding, settled, done, settling, entering, raised, takingUp, takingDown, asked, takingAsk, inheriting, bereaved, noticing}
 use Rattle.rank.proofs.Laws.Cases.{settled-by, raised-by, lowered-by, asked-by, orphaned-by, bereaved-by}
 
 module _ (anc : ℕ → ℕ) (n me : ℕ) where

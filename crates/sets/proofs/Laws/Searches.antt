@@ -2,7 +2,7 @@
 -- no later proof does induction on it. Assumes nothing.
 use mathlib.Core.Path.{_≡_, refl, sym, ap, _∙_}
 use mathlib.Core.Bool.{Bool, true, false, cond, not, _&&_}
-use mathlib.Core.List.{[], _∷_, _++_, append-nil}
+use mathlib.Core.List.{List, [], _∷_, _++_, append-nil}
 use mathlib.Core.Logic.{_⊎_, inl, inr, ⊎-elim}
 use Prim.Native.Nat.{ℕ, zero, suc, _+_, _≤_, _<_}
 use native.Mathlib.Numerals.{add-one}
@@ -11,9 +11,9 @@ use lib.Dec.{eqb}
 use lib.ListN.{length, getD, length-append, List·getD-append}
 use lib.Seq.{getD-append-add}
 use borrow.Author.Tests.{eq-eqb, ne-eqb, lt-ltb}
-use Rattle.sets.specs.Sets.{has, add, setOf, count, largest, smallest, listed, every}
+use Rattle.sets.specs.Sets.{has, only, add, minus, setOf, count, largest, smallest, listed, every}
 use Rattle.sets.proofs.Laws.Bools.{clash, fails, lt-or-le, eq-or-ne, and-i, and-l, and-r, and-not-l}
-use Rattle.sets.proofs.Laws.Members.{has-setOf, has-high, setOf-lt, has-add-other}
+use Rattle.sets.proofs.Laws.Members.{has-minus, has-only, has-setOf, has-high, setOf-lt, has-add-other}
 
 -- no rank below n passes
 abbrev pub Nobody : (ℕ → Bool) → ℕ → Type 0
@@ -294,6 +294,15 @@ listed-cons f (suc n) q l = ⊎-elim (λ (e : q ≡ n). here e) (λ (e : q ≡ n
         last : (b : Bool) → b && true ≡ b
         last true = refl
         last false = refl
+
+-- a word's list begins with its smallest member, and goes on with those of the word without it
+pub listed-first : (w n q : ℕ) → Smallest (has w) n q → listed (has w) n ≡ q ∷ listed (has (minus w (only q))) n
+listed-first w n q s =
+    listed-cons (has w) n q s
+    ∙ ap (λ (l : List ℕ). q ∷ l) (listed-cong (λ k. has w k && not (eqb k q)) (has (minus w (only q))) n (λ k l. sym (has-minus w (only q) k ∙ ap (λ (b : Bool). has w k && not b) (has-only q k))))
+
+pub count-first : (w n q : ℕ) → Smallest (has w) n q → count (has w) n ≡ suc (count (has (minus w (only q))) n)
+count-first w n q s = sym (length-listed (has w) n) ∙ ap length (listed-first w n q s) ∙ ap suc (length-listed (has (minus w (only q))) n)
 
 -- ---- every
 

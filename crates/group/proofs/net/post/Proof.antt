@@ -1,6 +1,5 @@
 -- `post` meets its contract. The invariant: what stands in the places, and the messages still to come, are the list that was to be. Assumes nothing.
 use Rattle.group.proofs.Laws.Net.{Posting, first-member, posting-start, posting-step, posting-place, posting-less, posting-end}
-use Rattle.rank.specs.Sends.{letter}
 use Rattle.sets.specs.Sets
 use Rattle.sets.specs.Sets.{has}
 use borrow.Author.Needs.{needs}
@@ -42,7 +41,6 @@ loop-less : tie.Need-loop-less Inv-loop μ-loop
 loop-less c = search posting-less
 
 loop-again : tie.Need-loop-again Inv-loop μ-loop
-unfolding letter
 loop-again c =
     let first = c .before .before in
     let turn = first .before in

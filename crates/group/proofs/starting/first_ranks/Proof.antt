@@ -1,8 +1,9 @@
 -- `first_ranks` meets its contract. The invariant: the records before i are fresh. Assumes nothing.
 use Prim.Native.Nat.{_-_}
-use Rattle.group.proofs.Laws.Starting.{Filled, filled-from, ranks-put, ranks-end, fresh-kept}
+use Rattle.group.proofs.Laws.Starting.{Filled, filled-from, ranks-put, ranks-end}
 use Rattle.group.specs.Starting.{firstRank}
 use Rattle.group.specs.States.{zeroRank}
+use Rattle.rank.proofs.Laws.Keeping.{fresh-kept}
 use Rattle.tree.specs.Tree.{flat}
 use borrow.Author.Needs.{needs}
 use Rattle.group.proofs.starting.first_ranks.Statement.{statement}
