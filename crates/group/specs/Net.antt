@@ -8,7 +8,7 @@ use Rattle.rank.specs.declared.Message.{Message}
 abbrev pub inFlight : ℕ
 inFlight = 128
 
-unfoldable pub zeroMessage : Message
+abbrev pub zeroMessage : Message
 zeroMessage = record { kind = 0; from = 0; to = 0; word = 0 }
 
 -- The messages in their places, and zeros after the last.

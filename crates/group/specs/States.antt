@@ -8,7 +8,7 @@ use Rattle.group.specs.declared.Group.{Group}
 use Rattle.group.specs.declared.State.{State}
 use Rattle.group.specs.Net.{zeroMessage}
 
-unfoldable pub zeroRank : Rank
+abbrev pub zeroRank : Rank
 zeroRank = record { phase = 0; marks = 0; heard = 0; awaited = 0; owed = 0; word = 0; result = 0 }
 
 abbrev pub joined : Group → List (List ℕ) → State

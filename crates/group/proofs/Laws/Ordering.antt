@@ -60,7 +60,7 @@ member-i anc n dead i r row a b s =
     and-i (inOrder anc n i r row) (isWithin (r .marks) dead) (facts-in-order anc n i a b r row (s .ordered) (s .table)) (within-i (r .marks) dead (s .marks-dead))
 
 zero-record-o : (r : Rank) → zeroRecord r ≡ true → r ≡ zeroRank
-unfolding zeroRecord zeroRank
+unfolding zeroRecord
 zero-record-o r t =
     let t1 = all-tail _ _ t in
     let t2 = all-tail _ _ t1 in
@@ -79,7 +79,7 @@ zero-record-o r t =
     }
 
 zero-record-i : (r : Rank) → r ≡ zeroRank → zeroRecord r ≡ true
-unfolding zeroRecord zeroRank
+unfolding zeroRecord
 zero-record-i r e = rw e (simp (all-step, all-nil))
 
 stranger-o : (r : Rank) (row : List ℕ) → strangerOrder r row ≡ true → (r ≡ zeroRank) × (row ≡ replicate 64 none)
@@ -123,7 +123,7 @@ message-i n dead m l =
     (all-cons _ _ (meant (eqb (m .kind) ask) (isWithin (below (m .from)) dead) (λ e. within-i (below (m .from)) dead (λ k t. l .ask-dead (eqb-true (m .kind) ask e) k (below-o (below (m .from)) (m .from) k (within-i (below (m .from)) (below (m .from)) (λ j u. u)) t)))) all-nil))))))
 
 vacant-o : (m : Message) → zeroPlace m ≡ true → m ≡ zeroMessage
-unfolding zeroPlace zeroMessage
+unfolding zeroPlace
 vacant-o m t =
     let t1 = all-tail _ _ t in
     let t2 = all-tail _ _ t1 in
@@ -131,7 +131,7 @@ vacant-o m t =
     λ i. record { kind = eqb-true (m .kind) 0 (all-head _ _ t) i; from = eqb-true (m .from) 0 (all-head _ _ t1) i; to = eqb-true (m .to) 0 (all-head _ _ t2) i; word = eqb-true (m .word) 0 (all-head _ _ t3) i }
 
 vacant-i : (m : Message) → m ≡ zeroMessage → zeroPlace m ≡ true
-unfolding zeroPlace zeroMessage
+unfolding zeroPlace
 vacant-i m e = rw e (simp (all-step, all-nil))
 
 -- ---- the whole state

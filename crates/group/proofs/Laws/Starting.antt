@@ -1,5 +1,5 @@
 -- Start along its code: the records and the rows are filled from the front. Assumes nothing.
-use mathlib.Core.Path.{_≡_, sym, ap, ap₂, subst, _∙_}
+use mathlib.Core.Path.{_≡_, refl, sym, ap, ap₂, subst, _∙_}
 use mathlib.Core.Bool.{Bool, true, false}
 use mathlib.Core.List.{List, []}
 use mathlib.Core.Logic.{⊎-elim}
@@ -11,6 +11,7 @@ use Rattle.sets.specs.Sets.{none}
 use Rattle.sets.proofs.Laws.Bools.{passes-or-fails}
 use Rattle.tree.specs.Tree.{row, fresh}
 use Rattle.tree.specs.Calls.{wrongSize}
+use Rattle.tree.proofs.Laws.Calls.{size-none}
 use Rattle.tree.proofs.Laws.Rows.{Patched, patched-start, patched-put, patched-end, row-replicate}
 use Rattle.rank.specs.declared.Rank.{Rank}
 use Rattle.rank.specs.declared.Message.{Message}
@@ -71,6 +72,10 @@ module _ (anc : ℕ → ℕ) (n : ℕ) where
   pub start-accepted : (b : Bool) (u : State) → b ≡ wrongSize n → b ≡ false → u ≡ freshState anc n → _≡_ {A = Started} (record { answer = 0; state = u }) (started anc n)
   unfolding started
   start-accepted b u e f g = rw (sym e ∙ f, g)
+
+-- a start of no ranks gives the empty state
+pub start-of-none : (anc : ℕ → ℕ) → started anc 0 .state ≡ emptyState
+start-of-none anc = sym (ap (λ (x : Started). x .state) (start-refused anc 0 (wrongSize 0) emptyState refl size-none refl))
 
 -- an accepted start is of a size from 1 to 64 and gives the fresh group
 pub started-fresh : (anc : ℕ → ℕ) (n : ℕ) → started anc n .answer ≡ 0 → (wrongSize n ≡ false) × (started anc n .state ≡ freshState anc n)

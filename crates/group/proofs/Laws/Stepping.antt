@@ -16,6 +16,7 @@ use Rattle.rank.specs.declared.Rank.{Rank}
 use Rattle.rank.specs.declared.Message.{Message}
 use Rattle.rank.specs.declared.Acted.{Acted}
 use Rattle.rank.specs.Sends.{letters}
+use Rattle.rank.proofs.Laws.Letters.{silent-size}
 use Rattle.group.specs.declared.State.{State}
 use Rattle.group.specs.declared.Plan.{Plan}
 use Rattle.group.specs.declared.Joined.{Joined}
@@ -68,7 +69,7 @@ planned-accepted anc n dead c kind a b m me r row p e z = first (passes-or-fails
         absurd (eqb-false (refusal n dead c kind a b r m) 0 h (sym (ap (λ (y : Plan). y .answer) q) ∙ z))
 
 -- A refused plan has its rank do nothing.
-pub planned-refused : (anc : ℕ → ℕ) (n dead c kind a b : ℕ) (m : Message) (me : ℕ) (r : Rank) (row : List ℕ) (p : Plan) → p ≡ planned anc n dead c kind a b m me r row → (p .answer ≡ 0 → ⊥) → p .acted ≡ idle r row
+planned-refused : (anc : ℕ → ℕ) (n dead c kind a b : ℕ) (m : Message) (me : ℕ) (r : Rank) (row : List ℕ) (p : Plan) → p ≡ planned anc n dead c kind a b m me r row → (p .answer ≡ 0 → ⊥) → p .acted ≡ idle r row
 unfolding planned fitting refusing accepting
 planned-refused anc n dead c kind a b m me r row p e z = first (passes-or-fails (eqb (refusal n dead c kind a b r m) 0))
   where
@@ -84,6 +85,12 @@ planned-refused anc n dead c kind a b m me r row p e z = first (passes-or-fails 
     first : (eqb (refusal n dead c kind a b r m) 0 ≡ true) ⊎ (eqb (refusal n dead c kind a b r m) 0 ≡ false) → p .acted ≡ idle r row
     first (inl h) = second h (passes-or-fails t)
     first (inr h) = let q : p ≡ refusing (refusal n dead c kind a b r m) r row = e ∙ rw h in ap (λ (y : Plan). y .acted) q
+
+-- and sends and moves nothing
+pub refused-quiet : (anc : ℕ → ℕ) (n dead c kind a b : ℕ) (m : Message) (me : ℕ) (r : Rank) (row : List ℕ) (p : Plan) → p ≡ planned anc n dead c kind a b m me r row → (p .answer ≡ 0 → ⊥)
+    → (count (has (p .acted .first .to)) 64 + count (has (p .acted .second .to)) 64 ≡ 0) × (p .acted .moved ≡ 0)
+unfolding idle
+refused-quiet anc n dead c kind a b m me r row p e z = rw (planned-refused anc n dead c kind a b m me r row p e z, silent-size) (refl, refl)
 
 -- ---- what an accepted event is about
 
@@ -133,7 +140,7 @@ clean-notice n dead c kind a b r m x k = leb-false n b (fails (leb n b) (λ h. c
 module _ (anc : ℕ → ℕ) (s : State) (f : Facts anc s) where
   -- the message at any place has its ends in the group
   ends-in : (i : ℕ) → (placeAt s i .from < s .group .n) × (placeAt s i .to < s .group .n)
-  unfolding placeAt zeroMessage
+  unfolding placeAt
   ends-in i = ⊎-elim (λ (l : i < s .group .count). (f .lawful i l .from-in, f .lawful i l .to-in)) (λ (l : s .group .count ≤ i). nobody l (lt-or-le i inFlight)) (lt-or-le i (s .group .count))
     where
       zero-ends : (m : Message) → m ≡ zeroMessage → (m .from < s .group .n) × (m .to < s .group .n)

@@ -6,11 +6,11 @@ use Prim.Native.Nat.{ℕ, _+_, _<_}
 use lib.ListN.{length, getD, length-append, length-map, List·getD-map}
 use Rattle.sets.specs.Sets.{has, only, minus, count, listed}
 use Rattle.sets.proofs.Laws.Members.{has-zero}
-use Rattle.sets.proofs.Laws.Searches.{Smallest, length-listed, listed-none, listed-ascends, listed-first}
+use Rattle.sets.proofs.Laws.Searches.{Smallest, count-none, length-listed, listed-none, listed-ascends, listed-first}
 use Rattle.rank.specs.declared.Send.{Send}
 use Rattle.rank.specs.declared.Message.{Message}
 use Rattle.rank.specs.declared.Acted.{Acted}
-use Rattle.rank.specs.Sends.{letter, letters, sent}
+use Rattle.rank.specs.Sends.{silent, letter, letters, sent}
 
 -- a message in fields
 pub letter-is : (me : ℕ) (s : Send) (q : ℕ) → _≡_ {A = Message} (letter me s q) (record { kind = s .kind; from = me; to = q; word = s .word })
@@ -20,6 +20,11 @@ letter-is me s q = refl
 pub length-letters : (me : ℕ) (s : Send) → length (letters me s) ≡ count (has (s .to)) 64
 unfolding letters
 length-letters me s = length-map (listed (has (s .to)) 64) (letter me s) ∙ length-listed (has (s .to)) 64
+
+-- silence is no message
+pub silent-size : count (has (silent .to)) 64 ≡ 0
+unfolding silent
+silent-size = count-none (has 0) 64 (λ k l. has-zero k)
 
 -- the list's length is the sum of the set sizes
 pub length-sent : (me : ℕ) (a : Acted) → length (sent me a) ≡ count (has (a .first .to)) 64 + count (has (a .second .to)) 64

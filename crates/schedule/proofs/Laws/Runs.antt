@@ -6,22 +6,19 @@ use Prim.Native.Nat.{ℕ, suc, _+_, _*_, _-_, _≤_, _<_}
 use native.Mathlib.Omega.{arith}
 use lib.ListN.{length, getD, set, take, length-set}
 use Rattle.sets.specs.Sets.{has, add, count}
-use Rattle.sets.proofs.Laws.Members.{has-zero}
-use Rattle.sets.proofs.Laws.Searches.{count-none}
 use Rattle.tree.specs.Tree.{flat}
 use Rattle.rank.specs.declared.Rank.{Rank}
 use Rattle.rank.specs.declared.Message.{Message}
-use Rattle.rank.specs.declared.Acted.{Acted}
-use Rattle.rank.specs.Sends.{letters, silent}
+use Rattle.rank.specs.Sends.{letters}
 use Rattle.group.specs.declared.State.{State}
 use Rattle.group.specs.declared.Plan.{Plan}
 use Rattle.group.specs.declared.Joined.{Joined}
 use Rattle.group.specs.declared.Stepped.{Stepped}
 use Rattle.group.specs.Net.{zeroMessage, padded, without}
 use Rattle.group.specs.States.{zeroRank, joined}
-use Rattle.group.specs.Events.{idle, subject, planned, placed}
+use Rattle.group.specs.Events.{subject, planned, placed}
 use Rattle.group.specs.Order.{Ready, Orderly}
-use Rattle.group.proofs.Laws.Stepping.{subject-below, step-ready, step-held, step-count, step-refused, step-accepted, planned-refused}
+use Rattle.group.proofs.Laws.Stepping.{subject-below, step-ready, step-held, step-count, step-refused, step-accepted, refused-quiet}
 use Rattle.group.proofs.Laws.Preserving.{step-keeps-order}
 use Rattle.schedule.specs.declared.Event.{Event}
 use Rattle.schedule.specs.Files.{eventAt}
@@ -97,19 +94,13 @@ going-count file total s₀ out₀ n dead c ranks net tables out k g = step-coun
 
 -- ---- the next turn
 
-quiet : (p : Plan) (r : Rank) (row : List ℕ) → p .acted ≡ idle r row → (count (has (p .acted .first .to)) 64 + count (has (p .acted .second .to)) 64 ≡ 0) × (p .acted .moved ≡ 0)
-unfolding idle silent
-quiet p r row e =
-    let none : count (has 0) 64 ≡ 0 = count-none (has 0) 64 (λ i h. has-zero i) in
-    (subst (λ (a : Acted). count (has (a .first .to)) 64 + count (has (a .second .to)) 64 ≡ 0) (sym e) (rw none), ap (λ (a : Acted). a .moved) e)
-
 pub going-refused : (file : List ℕ) (total : ℕ) (s₀ : State) (out₀ : List ℕ) (n dead c : ℕ) (ranks : List Rank) (net : List Message) (tables : List (List ℕ)) (out : List ℕ) (k : ℕ) (e : Event) (m : Message) (me : ℕ) (p : Plan) (v : List ℕ)
     → Going file total s₀ out₀ (held n dead c ranks net tables) out k → k < total → e ≡ eventAt file k → m ≡ getD net (e .a) zeroMessage → me ≡ subject n (e .kind) (e .a) m
     → p ≡ planned flat n dead c (e .kind) (e .a) (e .b) m me (getD ranks me zeroRank) (getD tables me []) → v ≡ written out k (p .answer) (count (has (p .acted .first .to)) 64 + count (has (p .acted .second .to)) 64) (p .acted .moved) → (p .answer ≡ 0 → ⊥)
     → Going file total s₀ out₀ (held n dead c ranks net tables) v (k + 1)
 unfolding stepAt
 going-refused file total s₀ out₀ n dead c ranks net tables out k e m me p v g l ee em eg ep ev z =
-    let q = quiet p (getD ranks me zeroRank) (getD tables me []) (planned-refused flat n dead c (e .kind) (e .a) (e .b) m me (getD ranks me zeroRank) (getD tables me []) p ep z) in
+    let q = refused-quiet flat n dead c (e .kind) (e .a) (e .b) m me (getD ranks me zeroRank) (getD tables me []) p ep z in
     rw (ev, q .0, q .1)
     (going-on file total s₀ out₀ (held n dead c ranks net tables) out k (record { answer = p .answer; sent = 0; moved = 0; state = held n dead c ranks net tables }) g l
     (step-refused (held n dead c ranks net tables) (e .kind) (e .a) (e .b) m me tables p em eg refl ep z ∙ rw ee))

@@ -1,5 +1,5 @@
 -- The entry points, along their code: each refusal, in the order of the checks, is what the definition answers. Assumes nothing.
-use mathlib.Core.Path.{_≡_, sym, ap, _∙_}
+use mathlib.Core.Path.{_≡_, refl, sym, ap, _∙_}
 use mathlib.Core.Bool.{Bool, true, false, not, _||_}
 use mathlib.Core.List.{List}
 use Prim.Native.Nat.{ℕ, _≤_, _<_}
@@ -19,7 +19,12 @@ use Rattle.tree.specs.declared.Climbed.{Climbed}
 use Rattle.tree.specs.declared.Climbed.the-variants.{WrongSize, WrongRank, FromMarked}
 use Rattle.tree.proofs.Laws.Rows.{same-eq}
 
--- ---- a size that is not refused
+-- ---- sizes
+
+-- a group of none is refused
+pub size-none : wrongSize 0 ≡ true
+unfolding wrongSize
+size-none = refl
 
 pub size-le : (n : ℕ) (b : Bool) → b ≡ wrongSize n → b ≡ false → n ≤ 64
 unfolding wrongSize

@@ -1,6 +1,5 @@
 -- `step` meets its contract: from a state in order the plan is ready to be made and its sends have room, and carrying it out is the definition. Assumes nothing.
 use Rattle.group.proofs.Laws.Stepping.{subject-below, step-ready, step-held, step-count, step-place, step-room, step-refused, step-accepted}
-use Rattle.group.specs.States.{zeroRank}
 use borrow.Author.Needs.{needs}
 use Rattle.group.proofs.events.step.Statement.{statement}
 use Rattle.group.proofs.events.step.Tie as tie
@@ -33,15 +32,12 @@ array-copy-out-row : tie.Need-array-copy-out-row
 array-copy-out-row c = search subject-below
 
 plan-event-requires : tie.Need-plan-event-requires
-unfolding zeroRank
 plan-event-requires c κs = search step-ready
 
 returns : tie.Need-returns
-unfolding zeroRank
 returns c = search step-refused
 
 forward-requires : tie.Need-forward-requires
-unfolding zeroRank
 forward-requires c κs = (search step-held, (search step-count, (λ t. search step-place, search step-room)))
 
 cast-ranks : tie.Need-cast-ranks
@@ -84,7 +80,6 @@ join-requires : tie.Need-join-requires
 join-requires c κs = search needs
 
 returns-2 : tie.Need-returns-2
-unfolding zeroRank
 returns-2 c =
     let second = c .before in
     let first = second .before in

@@ -1,6 +1,5 @@
 -- `at` meets its contract: past the places there is no message. Assumes nothing.
 use Rattle.group.proofs.Laws.Net.{at-past}
-use Rattle.group.specs.Net.{zeroMessage}
 use borrow.Author.Needs.{needs}
 use mathlib.Core.Path.{refl}
 use Rattle.group.proofs.net.at.Statement.{statement}
@@ -13,7 +12,6 @@ array-copy-out-result : tie.Need-array-copy-out-result
 array-copy-out-result c = search needs
 
 returns : tie.Need-returns
-unfolding zeroMessage
 returns c = refl
 
 nothing-requires : tie.Need-nothing-requires

@@ -1,7 +1,6 @@
 -- `take_out` meets its contract. The invariant: the places before i hold what stands there once the message has left, the others are as they were. Assumes nothing.
 use Prim.Native.Nat.{_-_}
 use Rattle.group.proofs.Laws.Net.{Shifting, shifting-start, shifting-step, shifting-end}
-use Rattle.group.specs.Net.{zeroMessage}
 use borrow.Author.Needs.{needs}
 use Rattle.group.proofs.net.take_out.Statement.{statement}
 use Rattle.group.proofs.net.take_out.Tie as tie
@@ -46,7 +45,6 @@ loop-less : tie.Need-loop-less Inv-loop μ-loop
 loop-less c = search needs
 
 loop-again : tie.Need-loop-again Inv-loop μ-loop
-unfolding zeroMessage
 loop-again c = search shifting-step
 
 nothing-requires : tie.Need-nothing-requires Inv-loop μ-loop

@@ -39,7 +39,6 @@ place-order-requires : tie.Need-place-order-requires Inv-loop μ-loop
 place-order-requires c κs = search needs
 
 returns : tie.Need-returns Inv-loop μ-loop
-unfolding zeroMessage
 returns c =
     let a = c .before .before .before .before .before .args in
     (every-stops (test (a .n) (a .dead) (a .count) (a .t4)) 128 (c .before .before .before .before .loop .i) (c .before .place-order .result) (c .before .before .before .loop-test .taken) (c .before .place-order .ensures) (c .if1 .taken), search needs)
@@ -51,7 +50,6 @@ loop-less : tie.Need-loop-less Inv-loop μ-loop
 loop-less c = search needs
 
 loop-again : tie.Need-loop-again Inv-loop μ-loop
-unfolding zeroMessage
 loop-again c =
     let a = c .before .before .before .before .before .args in
     (omega arith, every-more (test (a .n) (a .dead) (a .count) (a .t4)) (c .before .before .before .before .loop .i) (c .before .place-order .result) (c .before .before .before .before .loop .inv .1) (c .before .place-order .ensures) (c .if1 .left))

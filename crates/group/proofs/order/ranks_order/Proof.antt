@@ -49,7 +49,6 @@ seat-order-requires : tie.Need-seat-order-requires Inv-loop μ-loop
 seat-order-requires c κs = search needs
 
 returns : tie.Need-returns Inv-loop μ-loop
-unfolding zeroRank
 returns c =
     let turn = c .before .before .before .before in
     let a = turn .before .before .args in
@@ -62,7 +61,6 @@ loop-less : tie.Need-loop-less Inv-loop μ-loop
 loop-less c = search needs
 
 loop-again : tie.Need-loop-again Inv-loop μ-loop
-unfolding zeroRank
 loop-again c =
     let turn = c .before .before .before .before in
     let a = turn .before .before .args in

@@ -2,7 +2,6 @@
 use Prim.Native.Nat.{_-_}
 use native.Mathlib.Omega.{arith}
 use Rattle.group.proofs.Laws.Stepping.{step-place, step-room}
-use Rattle.group.specs.States.{zeroRank}
 use Rattle.schedule.proofs.Laws.Runs.{held, Going, going-begin, going-event, going-room, going-subject, going-ready, going-held, going-count, going-refused, going-accepted, going-end}
 use borrow.Author.Needs.{needs}
 use Rattle.schedule.proofs.running.play.Statement.{statement}
@@ -49,7 +48,6 @@ array-copy-out-row : tie.Need-array-copy-out-row Inv-loop μ-loop
 array-copy-out-row c = search going-subject
 
 plan-event-requires : tie.Need-plan-event-requires Inv-loop μ-loop
-unfolding zeroRank
 plan-event-requires c κs = search going-ready
 
 tell-requires : tie.Need-tell-requires Inv-loop μ-loop
@@ -62,7 +60,6 @@ loop-less : tie.Need-loop-less Inv-loop μ-loop
 loop-less c = search needs
 
 loop-again : tie.Need-loop-again Inv-loop μ-loop
-unfolding zeroRank
 loop-again c =
     let told = c .before .before .before .before in
     let plan = told .before .before .before .before .before in
@@ -73,7 +70,6 @@ loop-again c =
     going-refused _ _ _ _ _ _ _ _ _ _ _ _ _ _ _ _ _ (loop .loop .inv) (turn .loop-test .taken) (event .event-at .ensures) (subject .before .at .ensures) (subject .subject .ensures) (plan .plan-event .ensures) (told .tell .ensures) (c .if1 .taken)
 
 forward-requires : tie.Need-forward-requires Inv-loop μ-loop
-unfolding zeroRank
 forward-requires c κs =
     let told = c .before .before .before .before in
     let plan = told .before .before .before .before .before in
@@ -107,7 +103,6 @@ loop-less-2 : tie.Need-loop-less-2 Inv-loop μ-loop
 loop-less-2 c = omega (arith, c .before .before .before .before .before .before .before .before .before .before .before .before .before .before .before .before .before .before .before .before .loop-test .taken)
 
 loop-again-2 : tie.Need-loop-again-2 Inv-loop μ-loop
-unfolding zeroRank
 loop-again-2 c =
     let told = c .before .before .before .before .before .before .before .before .before in
     let plan = told .before .before .before .before .before in

@@ -1,9 +1,10 @@
 -- `refuse` meets its contract: a start of no ranks is refused. Assumes nothing.
-use Rattle.group.specs.Starting.{started}
+use Rattle.group.specs.declared.Started.{Started}
+use Rattle.group.proofs.Laws.Starting.{start-of-none}
 use Rattle.schedule.specs.Runs.{refusedRun}
-use Rattle.tree.specs.Calls.{wrongSize}
+use Rattle.tree.specs.Tree.{flat}
 use borrow.Author.Needs.{needs}
-use mathlib.Core.Path.{refl}
+use mathlib.Core.Path.{refl, ap, _∙_}
 use Rattle.schedule.proofs.running.refuse.Statement.{statement}
 use Rattle.schedule.proofs.running.refuse.Tie as tie
 
@@ -11,8 +12,8 @@ start-requires : tie.Need-start-requires
 start-requires c κs = search needs
 
 returns : tie.Need-returns
-unfolding refusedRun started wrongSize
-returns c = (refl, rw (c .before .start .ensures))
+unfolding refusedRun
+returns c = (refl, ap (λ (x : Started). x .state) (c .before .start .ensures) ∙ start-of-none flat)
 
 pub refuse-spec : {M : Type 1} → statement M
 refuse-spec = tie.close (tie.spec start-requires returns)
