@@ -2,3 +2,6 @@
 pub mod Files
 pub mod Runs
 pub mod Opening
+pub mod Writing
+pub mod Lines
+pub mod Ending

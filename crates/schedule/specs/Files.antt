@@ -25,6 +25,10 @@ unfoldable pub eventAt : List ℕ → ℕ → Event
 eventAt file k =
     record { kind = byteAt file (6 + 9 * k); a = numberAt file (6 + 9 * k + 1); b = numberAt file (6 + 9 * k + 5) }
 
+-- The number of whole events.
+unfoldable pub eventsIn : List ℕ → ℕ
+eventsIn file = (length file - 6) / 9
+
 -- 21: mark
 unfoldable pub wrongMark : List ℕ → Bool
 wrongMark file = not (eqb (byteAt file 0) 65 && (eqb (byteAt file 1) 71 && eqb (byteAt file 2) 82))
@@ -47,7 +51,7 @@ header file =
     (cond (wrongSize (byteAt file 5)) WrongSize
     (cond (ltb 36870 (length file)) TooLong
     (cond (broken file) Broken
-    (Good (byteAt file 5) ((length file - 6) / 9)))))))
+    (Good (byteAt file 5) (eventsIn file)))))))
 
 -- Document 01's number for each header.
 unfoldable pub numberOf : Header → ℕ

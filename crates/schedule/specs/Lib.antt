@@ -1,2 +1,4 @@
 pub mod Files
 pub mod Runs
+pub mod Writing
+pub mod Listings

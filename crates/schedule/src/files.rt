@@ -4,7 +4,7 @@ use super::Header;
 ghost use mathlib.Core.Path.{_≡_};
 ghost use Prim.Native.Nat.{_+_, _*_, _<_, _≤_};
 ghost use lib.ListN.{length};
-ghost use Rattle.schedule.specs.Files.{eventAt, header, numberAt, shortAt, wrongMark};
+ghost use Rattle.schedule.specs.Files.{eventAt, eventsIn, header, numberAt, shortAt, wrongMark};
 
 // A number of two bytes, least byte first.
 fn short_at(file: &[u8], i: usize) -> u32
@@ -44,6 +44,15 @@ fn wrong_mark(file: &[u8]) -> bool
     !((file[0] == 65) & ((file[1] == 71) & (file[2] == 82)))
 }
 
+// The number of whole events.
+pub fn events_in(file: &[u8]) -> u32
+    requires { ⌜ 6 ≤ length (now file) ⌝ }
+    requires { ⌜ length (now file) ≤ 36870 ⌝ }
+    ensures { λ r. ⌜ r ≡ eventsIn (now (file .entry)) ⌝ }
+{
+    ((file.len() - 6) / 9) as u32
+}
+
 // The checks of a file, in document 01's order.
 pub fn read_header(file: &[u8]) -> Header
     ensures { λ r. ⌜ r ≡ header (now (file .entry)) ⌝ }
@@ -66,5 +75,5 @@ pub fn read_header(file: &[u8]) -> Header
     if (file.len() - 6) % 9 != 0 {
         return Header::Broken;
     }
-    Header::Good(file[5], ((file.len() - 6) / 9) as u32)
+    Header::Good(file[5], events_in(file))
 }

@@ -1,11 +1,13 @@
-// Schedules: the file and its checks, and the run of its events. The entry point for callers is run; it refuses bad input and
-// requires nothing.
+// Schedules: the file and its checks, the run of its events, and the listing. The entry point for callers is run; it refuses bad
+// input and requires nothing.
 mod files;
+mod listing;
 mod running;
 
-pub use files::event_at;
 pub use files::read_header;
 use group::State;
+pub use listing::list;
+pub use listing::report;
 pub use running::run;
 
 // What a file's first bytes and its length say: the group's size and the number of events, or what is wrong.

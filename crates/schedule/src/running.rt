@@ -4,6 +4,8 @@ use super::Ran;
 use super::files;
 use group::Group;
 use group::State;
+use rank::Message;
+use rank::Rank;
 ghost use mathlib.Core.Path.{_≡_};
 ghost use Prim.Native.Nat.{_+_, _*_, _≤_};
 ghost use lib.ListN.{length};
@@ -11,6 +13,7 @@ ghost use mathlib.Core.List.{[]};
 ghost use Rattle.sets.specs.Sets.{count, has};
 ghost use Rattle.tree.specs.Tree.{flat};
 ghost use Rattle.group.specs.Order.{Orderly};
+ghost use Rattle.group.specs.States.{joined};
 ghost use Rattle.schedule.specs.Runs.{played, refusedRun, run, written};
 
 // Writes an event's answer, how many messages it sent and moved at its three places.
@@ -22,6 +25,27 @@ fn tell(out: &mut [u32], k: usize, answer: u32, first: u64, second: u64, moved: 
     out[place] = answer;
     out[place + 1] = sets::size(first) as u32 + sets::size(second) as u32;
     out[place + 2] = moved;
+}
+
+// A state from its parts.
+fn assemble(
+    n: u8,
+    dead: u64,
+    count: u8,
+    ranks: [Rank; 64],
+    net: [Message; 128],
+    tables: [[u8; 64]; 64],
+) -> State
+    ensures { λ r. ⌜ r ≡ joined (record { n = n; dead = dead; count = count; ranks = ranks; net = net }) tables ⌝ }
+{
+    let group = Group {
+        n,
+        dead,
+        count,
+        ranks,
+        net,
+    };
+    group::join(group, tables)
 }
 
 // Plays a file's events on a state in order. It holds the state's parts by themselves, so that an event stores only what changes.
@@ -64,14 +88,7 @@ fn play(file: &[u8], total: usize, out: &mut [u32], s: State) -> State
         ranks[me as usize] = rank;
         tables[me as usize] = table;
     }
-    let group = Group {
-        n,
-        dead,
-        count,
-        ranks,
-        net,
-    };
-    group::join(group, tables)
+    assemble(n, dead, count, ranks, net, tables)
 }
 
 // A refused run gives the group of a refused start.

@@ -7,7 +7,7 @@ use lib.ListN.{length, getD}
 use borrow.Author.Tests.{eq-eqb, ne-eqb, lt-ltb, le-ltb}
 use Rattle.tree.specs.Calls.{wrongSize}
 use Rattle.schedule.specs.declared.Header.the-variants.{Good, Short, WrongMark, WrongVersion, WrongSize, TooLong, Broken}
-use Rattle.schedule.specs.Files.{byteAt, shortAt, wrongMark, wrongVersion, broken, header}
+use Rattle.schedule.specs.Files.{byteAt, shortAt, wrongMark, wrongVersion, broken, eventsIn, header}
 
 pub header-short : (file : List ℕ) → length file < 6 → Short ≡ header file
 unfolding header
@@ -37,9 +37,9 @@ unfolding header wrongVersion byteAt broken
 header-broken file t u v l e h g o z y m b =
     rw (le-ltb (length file) 6 l, sym e ∙ h, sym g ∙ o, sym z ∙ y, le-ltb 36870 (length file) m, ne-eqb ((length file - 6) % 9) 0 b)
 
-pub header-good : (file : List ℕ) (t u : Bool) (v : ℕ) → 6 ≤ length file → t ≡ wrongMark file → t ≡ false → v ≡ shortAt file 3 → v ≡ 1
-    → u ≡ wrongSize (getD file 5 0) → u ≡ false → length file ≤ 36870 → (length file - 6) % 9 ≡ 0
-    → Good (getD file 5 0) ((length file - 6) / 9) ≡ header file
+pub header-good : (file : List ℕ) (t u : Bool) (v k : ℕ) → 6 ≤ length file → t ≡ wrongMark file → t ≡ false → v ≡ shortAt file 3 → v ≡ 1
+    → u ≡ wrongSize (getD file 5 0) → u ≡ false → length file ≤ 36870 → (length file - 6) % 9 ≡ 0 → k ≡ eventsIn file
+    → Good (getD file 5 0) k ≡ header file
 unfolding header wrongVersion byteAt broken
-header-good file t u v l e h g o z y m b =
-    rw (le-ltb (length file) 6 l, sym e ∙ h, sym g ∙ o, sym z ∙ y, le-ltb 36870 (length file) m, eq-eqb ((length file - 6) % 9) 0 b)
+header-good file t u v k l e h g o z y m b f =
+    rw (le-ltb (length file) 6 l, sym e ∙ h, sym g ∙ o, sym z ∙ y, le-ltb 36870 (length file) m, eq-eqb ((length file - 6) % 9) 0 b, f)

@@ -19,13 +19,16 @@ use Rattle.group.specs.Starting.{freshState, started}
 use Rattle.group.proofs.Laws.Preserving.{fresh-orderly}
 use Rattle.schedule.specs.declared.Header.{Header}
 use Rattle.schedule.specs.declared.Header.the-variants.{Good, Short, WrongMark, WrongVersion, WrongSize, TooLong, Broken}
-use Rattle.schedule.specs.Files.{byteAt, wrongMark, wrongVersion, broken, header, numberOf}
+use Rattle.schedule.specs.Files.{byteAt, wrongMark, wrongVersion, broken, eventsIn, header, numberOf}
 use Rattle.schedule.specs.Runs.{Run, played, refusedRun, acceptedRun, opened, run}
 
 -- What a good header promises.
 pub record Opened (file : List ℕ) (n events : ℕ) : Type 0 where
   pub size : wrongSize n ≡ false
   pub whole : 6 + 9 * events ≤ length file
+  pub short : length file ≤ 36870
+  pub size-is : n ≡ byteAt file 5
+  pub events-are : events ≡ eventsIn file
 
 -- Whether the run goes on.
 abbrev pub goodness : Header → Bool
@@ -56,7 +59,7 @@ eventsOf TooLong = 0
 eventsOf Broken = 0
 
 pub good-opened : (file : List ℕ) (n t : ℕ) → Good n t ≡ header file → Opened file n t
-unfolding sizeOf eventsOf header broken
+unfolding sizeOf eventsOf header broken eventsIn
 good-opened file n t e = short (passes-or-fails (ltb (length file) 6))
   where
     bad : (h : Header) → header file ≡ h → goodness h ≡ false → Opened file n t
@@ -69,7 +72,7 @@ good-opened file n t e = short (passes-or-fails (ltb (length file) 6))
         let z : (length file - 6) % 9 ≡ 0 = eqb-true ((length file - 6) % 9) 0 (not-false (eqb ((length file - 6) % 9) 0) g) in
         let l : 6 ≤ length file = ltb-false (length file) 6 a in
         let u : t ≡ (length file - 6) / 9 = ap eventsOf q in
-        record { size = subst (λ (x : ℕ). wrongSize x ≡ false) (sym (ap sizeOf q)) d; whole = omega arith }
+        record { size = subst (λ (x : ℕ). wrongSize x ≡ false) (sym (ap sizeOf q)) d; whole = omega arith; short = ltb-false 36870 (length file) f; size-is = ap sizeOf q; events-are = u }
 
     long : ltb (length file) 6 ≡ false → wrongMark file ≡ false → wrongVersion file ≡ false → wrongSize (byteAt file 5) ≡ false → (ltb 36870 (length file) ≡ true) ⊎ (ltb 36870 (length file) ≡ false) → Opened file n t
     long a b c d (inl g) = bad TooLong (rw (a, b, c, d, g)) refl

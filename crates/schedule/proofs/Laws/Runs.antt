@@ -45,7 +45,7 @@ pub going-begin : (file : List ℕ) (total : ℕ) (s : State) (t : List (List �
     → Going file total (joined (s .group) t) out (joined (s .group) t) out 0
 going-begin file total s t out e f r o = subst (λ (x : List (List ℕ)). Going file total (joined (s .group) x) out (joined (s .group) x) out 0) (sym e) (going-start file total s out f r o)
 
-written-long : (out : List ℕ) (k x y z : ℕ) → length (written out k x y z) ≡ length out
+pub written-long : (out : List ℕ) (k x y z : ℕ) → length (written out k x y z) ≡ length out
 unfolding written
 written-long out k x y z = length-set (set (set out (3 * k) x) (3 * k + 1) y) (3 * k + 2) z ∙ length-set (set out (3 * k) x) (3 * k + 1) y ∙ length-set out (3 * k) x
 

@@ -44,11 +44,8 @@ returns-6 c = search header-broken
 shared-slice-read-t8 : tie.Need-shared-slice-read-t8
 shared-slice-read-t8 c = search needs
 
-sub-t10 : tie.Need-sub-t10
-sub-t10 c = search needs
-
-cast-t5 : tie.Need-cast-t5
-cast-t5 c = search needs
+events-in-requires : tie.Need-events-in-requires
+events-in-requires c κs = search needs
 
 returns-7 : tie.Need-returns-7
 returns-7 c = search header-good
@@ -70,6 +67,5 @@ read-header-spec =
     sub-if6
     returns-6
     shared-slice-read-t8
-    sub-t10
-    cast-t5
+    events-in-requires
     returns-7)

@@ -113,14 +113,14 @@ loop-again-2 c =
     let forth = c .before .before .before .before in
     going-accepted _ _ _ _ _ _ _ _ _ _ _ _ _ _ _ _ _ _ _ (loop .loop .inv) (turn .loop-test .taken) (event .event-at .ensures) (subject .before .at .ensures) (subject .subject .ensures) (plan .plan-event .ensures) (told .tell .ensures) (forth .before .if1 .left) (forth .forward .ensures) (c .before .before .buried .ensures)
 
-join-requires : tie.Need-join-requires Inv-loop μ-loop
-join-requires c κs = search needs
+assemble-requires : tie.Need-assemble-requires Inv-loop μ-loop
+assemble-requires c κs = search needs
 
 same-length : tie.Need-same-length Inv-loop μ-loop
 same-length c = search needs
 
 returns : tie.Need-returns Inv-loop μ-loop
-returns c = going-end _ _ _ _ _ _ _ _ _ (c .before .before .before .tables-of .ensures) (c .before .before .loop .inv) (c .before .loop-test .left) (c .join .ensures)
+returns c = going-end _ _ _ _ _ _ _ _ _ (c .before .before .before .tables-of .ensures) (c .before .before .loop .inv) (c .before .loop-test .left) (c .assemble .ensures)
 
 pub play-spec : {M : Type 1} → statement M
 play-spec =
@@ -154,6 +154,6 @@ play-spec =
     array-set-from-tables
     loop-less-2
     loop-again-2
-    join-requires
+    assemble-requires
     same-length
     returns)

@@ -1,0 +1,79 @@
+-- The listing of a run, as bytes: numbers are decimal without leading zeros, fields one space apart, and each line ends in one line
+-- feed.
+use Prim.Native.Nat.{ℕ, zero, suc, _+_, _*_, _-_, _/_, _%_}
+use mathlib.Core.Bool.{Bool, cond}
+use mathlib.Core.List.{List, [], _∷_, _++_}
+use lib.Dec.{eqb, ltb}
+use lib.ListN.{length, getD}
+use Rattle.sets.specs.Sets.{has}
+use Rattle.rank.specs.declared.Rank.{Rank}
+use Rattle.rank.specs.Words.{decided}
+use Rattle.group.specs.declared.State.{State}
+use Rattle.group.specs.States.{rankAt}
+use Rattle.schedule.specs.Files.{eventsIn}
+use Rattle.schedule.specs.Runs.{Run, run}
+
+-- The digits of a number that has at most `places` of them: the last is its remainder by ten, the others are those of a tenth.
+unfoldable pub digitsOf : ℕ → ℕ → List ℕ
+digitsOf zero x = []
+digitsOf (suc places) x = cond (ltb x 10) ((48 + x) ∷ []) (digitsOf places (x / 10) ++ ((48 + x % 10) ∷ []))
+
+-- A number of 32 bits has at most ten.
+unfoldable pub decimal : ℕ → List ℕ
+decimal x = digitsOf 10 x
+
+-- One space, and the number.
+unfoldable pub field : ℕ → List ℕ
+field x = 32 ∷ decimal x
+
+-- The line feed.
+unfoldable pub feed : List ℕ
+feed = 10 ∷ []
+
+-- First line, after the letters agr: version, n, events.
+unfoldable pub firstLine : ℕ → ℕ → List ℕ
+firstLine n events = (97 ∷ 103 ∷ 114 ∷ []) ++ (field 1 ++ (field n ++ (field events ++ feed)))
+
+-- Event lines: place, answer, sent, moved.
+unfoldable pub eventLine : List ℕ → ℕ → List ℕ
+eventLine answers k =
+    decimal k ++ (field (getD answers (3 * k) 0) ++ (field (getD answers (3 * k + 1) 0) ++ (field (getD answers (3 * k + 2) 0) ++ feed)))
+
+-- 1 if living.
+unfoldable pub living : ℕ → ℕ → ℕ
+living dead i = cond (has dead i) 0 1
+
+-- The result, with `-` unless decided.
+unfoldable pub resultField : ℕ → ℕ → List ℕ
+resultField phase result = cond (eqb phase decided) (field result) (32 ∷ 45 ∷ [])
+
+-- Rank lines, after the letter r: rank, 1 if living, phase, result.
+unfoldable pub rankLine : ℕ → ℕ → Rank → List ℕ
+rankLine dead i r =
+    (114 ∷ []) ++ (field i ++ (field (living dead i) ++ (field (r .phase) ++ (resultField (r .phase) (r .result) ++ feed))))
+
+-- Last, after the letter m: messages in flight.
+unfoldable pub lastLine : ℕ → List ℕ
+lastLine count = (109 ∷ []) ++ (field count ++ feed)
+
+-- The lines of the places below k, ascending.
+unfoldable pub lines : (ℕ → List ℕ) → ℕ → List ℕ
+lines f zero = []
+lines f (suc k) = lines f k ++ f k
+
+-- The listing of a run of so many events, from its answers and its final state.
+unfoldable pub listing : ℕ → List ℕ → State → List ℕ
+listing events answers s =
+    firstLine (s .group .n) events
+    ++ (lines (eventLine answers) events ++ (lines (λ i. rankLine (s .group .dead) i (rankAt s i)) (s .group .n) ++ lastLine (s .group .count)))
+
+-- The only line of a refused run: the letters refused, and the number.
+unfoldable pub refusedLine : ℕ → List ℕ
+refusedLine number = (114 ∷ 101 ∷ 102 ∷ 117 ∷ 115 ∷ 101 ∷ 100 ∷ []) ++ (field number ++ feed)
+
+-- What the schedule program prints for a file, whose run has the answers in a lent slice.
+unfoldable pub reportOf : List ℕ → Run → List ℕ
+reportOf file r = cond (eqb (r .answer) 0) (listing (eventsIn file) (r .answers) (r .state)) (refusedLine (r .answer))
+
+unfoldable pub report : (ℕ → ℕ) → List ℕ → List ℕ → List ℕ
+report anc file out = reportOf file (run anc file out)
