@@ -16,6 +16,23 @@ pub fn write(n: u8, events: &[Event]) -> Vec<u8> {
     bytes
 }
 
+/// The file that a text describes: `n SIZE`, then a line `KIND A B` for each event; `#` begins a comment.
+pub fn written(text: &str) -> Vec<u8> {
+    let lines = text.lines().filter(|l| !l.starts_with('#') && !l.trim().is_empty());
+    let mut n = 0;
+    let mut events = Vec::new();
+    for line in lines {
+        let words: Vec<&str> = line.split_whitespace().collect();
+        let word = |k: usize| words[k].parse::<u32>().unwrap_or_else(|_| panic!("{line}: not a number"));
+        match words.len() {
+            2 if words[0] == "n" => n = word(1) as u8,
+            3 => events.push(Event { kind: word(0) as u8, a: word(1), b: word(2) }),
+            _ => panic!("{line}: neither a size nor an event"),
+        }
+    }
+    write(n, &events)
+}
+
 fn number(bytes: &[u8]) -> u32 {
     bytes.iter().rev().fold(0, |sum, byte| sum * 256 + *byte as u32)
 }
@@ -78,6 +95,18 @@ mod tests {
         let wanted = "agr 1 3 12\n0 0 1 0\n1 0 0 0\n2 0 0 0\n3 0 1 0\n4 0 1 0\n5 0 0 0\n6 0 1 1\n7 0 0 0\n8 0 1 1\n\
                       9 0 1 0\n10 0 1 0\n11 8 0 0\nr 0 0 3 4\nr 1 1 3 6\nr 2 1 3 6\nm 1\n";
         assert_eq!(listing(&write(3, &events)), wanted);
+    }
+
+    #[test]
+    fn examples() {
+        let dir = concat!(env!("CARGO_MANIFEST_DIR"), "/../../examples");
+        for name in ["three", "broken_middle", "root_dies", "sixty_four"] {
+            let text = std::fs::read_to_string(format!("{dir}/{name}.events")).expect("events");
+            let bytes = std::fs::read(format!("{dir}/{name}.agr")).expect("a schedule");
+            let wanted = std::fs::read_to_string(format!("{dir}/{name}.listing")).expect("a listing");
+            assert_eq!(written(&text), bytes, "{name}");
+            assert_eq!(listing(&bytes), wanted, "{name}");
+        }
     }
 
     #[test]

@@ -1,8 +1,9 @@
 //! A second opinion on schedules, written from document 01 alone.
 //!
 //!     model listing < FILE             the listing that FILE must have
+//!     model write < EVENTS > FILE      the schedule that a text describes: `n SIZE`, then `KIND A B` lines, `#` comments
 //!     model schedule SEED > FILE       a random schedule
-//!     model data SEED COUNT DIR        COUNT of them as DIR/000.agr and on, their listings on standard output
+//!     model data SEED COUNT DIR        COUNT of them as DIR/000.agr and on, few of them long, their listings on standard output
 //!     model compare PROGRAM SEED COUNT the program's listings beside the model's
 
 mod compare;
@@ -20,22 +21,31 @@ fn number(text: &str) -> u64 {
     text.parse().unwrap_or_else(|_| panic!("{text}: not a number"))
 }
 
+/// Long files teach little more than short ones: one in six may be.
 fn data(seed: u64, count: u64, dir: &str) {
-    for k in 0..count {
-        let bytes = schedule(&mut Random::new(seed + k));
+    let seeds = seed..;
+    let files = seeds.map(|seed| (seed, schedule(&mut Random::new(seed))));
+    let kept = files.filter(|(seed, bytes)| bytes.len() < 1500 || seed % 6 == 0);
+    for (k, (_, bytes)) in kept.take(count as usize).enumerate() {
         std::fs::write(format!("{dir}/{k:03}.agr"), &bytes).expect("a file written");
         print!("{}", file::listing(&bytes));
     }
+}
+
+fn input() -> Vec<u8> {
+    let mut bytes = Vec::new();
+    std::io::stdin().read_to_end(&mut bytes).expect("standard input");
+    bytes
 }
 
 fn main() {
     let words: Vec<String> = std::env::args().skip(1).collect();
     let words: Vec<&str> = words.iter().map(String::as_str).collect();
     match words[..] {
-        ["listing"] => {
-            let mut bytes = Vec::new();
-            std::io::stdin().read_to_end(&mut bytes).expect("a file");
-            print!("{}", file::listing(&bytes));
+        ["listing"] => print!("{}", file::listing(&input())),
+        ["write"] => {
+            let bytes = file::written(&String::from_utf8(input()).expect("a text"));
+            std::io::stdout().write_all(&bytes).expect("a file written");
         }
         ["schedule", seed] => {
             let bytes = schedule(&mut Random::new(number(seed)));
@@ -48,7 +58,7 @@ fn main() {
             }
         }
         _ => {
-            eprintln!("model listing | schedule SEED | data SEED COUNT DIR | compare PROGRAM SEED COUNT");
+            eprintln!("model listing | write | schedule SEED | data SEED COUNT DIR | compare PROGRAM SEED COUNT");
             exit(2);
         }
     }

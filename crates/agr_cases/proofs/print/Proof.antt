@@ -1,0 +1,72 @@
+-- `print` is safe: a report fits the buffer that it is lent. Assumes nothing.
+use mathlib.Core.Path.{sym}
+use lib.Seq.{length-take-le}
+use Rattle.schedule.proofs.Laws.Ending.{report-fits}
+use borrow.Author.Needs.{needs}
+use Rattle.agr_cases.proofs.print.Statement.{statement}
+use Rattle.agr_cases.proofs.print.Tie as tie
+
+open-read-requires : tie.Need-open-read-requires
+open-read-requires c κs = search needs
+
+fail-requires : tie.Need-fail-requires
+fail-requires c κs = search needs
+
+returns : tie.Need-returns
+returns c = search needs
+
+slice-aggregate-read-full : tie.Need-slice-aggregate-read-full
+slice-aggregate-read-full c = search needs
+
+read-full-requires : tie.Need-read-full-requires
+read-full-requires c κs = search needs
+
+array-share-prefix-file : tie.Need-array-share-prefix-file
+array-share-prefix-file c = search needs
+
+slice-aggregate-report : tie.Need-slice-aggregate-report
+slice-aggregate-report c = search needs
+
+slice-aggregate-report-2 : tie.Need-slice-aggregate-report-2
+slice-aggregate-report-2 c = search needs
+
+slice-aggregate-report-3 : tie.Need-slice-aggregate-report-3
+slice-aggregate-report-3 c = search needs
+
+report-requires : tie.Need-report-requires
+report-requires c κs = search needs
+
+array-share-prefix-text : tie.Need-array-share-prefix-text
+array-share-prefix-text c = report-fits _ _ _ _ _ (c .before .before .report .ensures .0) (search needs)
+
+slice-aggregate-write-all : tie.Need-slice-aggregate-write-all
+slice-aggregate-write-all c = sym (length-take-le _ _ (report-fits _ _ _ _ _ (c .before .before .before .report .ensures .0) (search needs)))
+
+write-all-requires : tie.Need-write-all-requires
+write-all-requires c κs = search needs
+
+close-requires : tie.Need-close-requires
+close-requires c κs = search needs
+
+returns-2 : tie.Need-returns-2
+returns-2 c = search needs
+
+pub print-spec : {M : Type 1} → statement M
+print-spec =
+    tie.close
+    (tie.spec
+    open-read-requires
+    fail-requires
+    returns
+    slice-aggregate-read-full
+    read-full-requires
+    array-share-prefix-file
+    slice-aggregate-report
+    slice-aggregate-report-2
+    slice-aggregate-report-3
+    report-requires
+    array-share-prefix-text
+    slice-aggregate-write-all
+    write-all-requires
+    close-requires
+    returns-2)
