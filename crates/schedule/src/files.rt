@@ -4,7 +4,7 @@ use super::Header;
 ghost use mathlib.Core.Path.{_≡_};
 ghost use Prim.Native.Nat.{_+_, _*_, _<_, _≤_};
 ghost use lib.ListN.{length};
-ghost use Rattle.schedule.specs.Files.{eventAt, eventsIn, header, numberAt, shortAt, wrongMark};
+ghost use Rattle.schedule.specs.Files.{broken, eventAt, eventsIn, header, numberAt, shortAt, wrongMark};
 
 // A number of two bytes, least byte first.
 fn short_at(file: &[u8], i: usize) -> u32
@@ -44,6 +44,14 @@ fn wrong_mark(file: &[u8]) -> bool
     !((file[0] == 65) & ((file[1] == 71) & (file[2] == 82)))
 }
 
+// Whether the last event is broken.
+fn broken(file: &[u8]) -> bool
+    requires { ⌜ 6 ≤ length (now file) ⌝ }
+    ensures { λ r. ⌜ r ≡ broken (now (file .entry)) ⌝ }
+{
+    (file.len() - 6) % 9 != 0
+}
+
 // The number of whole events.
 pub fn events_in(file: &[u8]) -> u32
     requires { ⌜ 6 ≤ length (now file) ⌝ }
@@ -72,7 +80,7 @@ pub fn read_header(file: &[u8]) -> Header
     if 36870 < file.len() {
         return Header::TooLong;
     }
-    if (file.len() - 6) % 9 != 0 {
+    if broken(file) {
         return Header::Broken;
     }
     Header::Good(file[5], events_in(file))

@@ -11,11 +11,11 @@ use borrow.Author.Tests.{eq-eqb, ne-eqb, ltb-true, ltb-false}
 use Rattle.sets.proofs.Laws.Bools.{passes-or-fails, eq-or-ne}
 use Rattle.tree.specs.Tree.{flat}
 use Rattle.tree.specs.Calls.{wrongSize}
-use Rattle.tree.proofs.Laws.Calls.{size-le}
+use Rattle.tree.proofs.Laws.Calls.{size-le, size-pos}
 use Rattle.group.specs.declared.State.{State}
 use Rattle.group.specs.Order.{Orderly}
 use Rattle.group.specs.Starting.{freshState}
-use Rattle.group.proofs.Laws.Ordering.{size-pos, orderly-facts}
+use Rattle.group.proofs.Laws.Ordering.{orderly-facts}
 use Rattle.group.proofs.Laws.Preserving.{fresh-orderly, step-keeps-order}
 use Rattle.schedule.specs.declared.Header.{Header}
 use Rattle.schedule.specs.declared.Header.the-variants.{Good, Short, WrongMark, WrongVersion, WrongSize, TooLong, Broken}

@@ -31,15 +31,15 @@ pub header-long : (file : List ℕ) (t u : Bool) (v : ℕ) → 6 ≤ length file
 unfolding header wrongVersion byteAt
 header-long file t u v l e h g o z y m = rw (le-ltb (length file) 6 l, sym e ∙ h, sym g ∙ o, sym z ∙ y, lt-ltb 36870 (length file) m)
 
-pub header-broken : (file : List ℕ) (t u : Bool) (v : ℕ) → 6 ≤ length file → t ≡ wrongMark file → t ≡ false → v ≡ shortAt file 3 → v ≡ 1
-    → u ≡ wrongSize (getD file 5 0) → u ≡ false → length file ≤ 36870 → ((length file - 6) % 9 ≡ 0 → ⊥) → Broken ≡ header file
-unfolding header wrongVersion byteAt broken
-header-broken file t u v l e h g o z y m b =
-    rw (le-ltb (length file) 6 l, sym e ∙ h, sym g ∙ o, sym z ∙ y, le-ltb 36870 (length file) m, ne-eqb ((length file - 6) % 9) 0 b)
+pub header-broken : (file : List ℕ) (t u w : Bool) (v : ℕ) → 6 ≤ length file → t ≡ wrongMark file → t ≡ false → v ≡ shortAt file 3 → v ≡ 1
+    → u ≡ wrongSize (getD file 5 0) → u ≡ false → length file ≤ 36870 → w ≡ broken file → w ≡ true → Broken ≡ header file
+unfolding header wrongVersion byteAt
+header-broken file t u w v l e h g o z y m b c =
+    rw (le-ltb (length file) 6 l, sym e ∙ h, sym g ∙ o, sym z ∙ y, le-ltb 36870 (length file) m, sym b ∙ c)
 
-pub header-good : (file : List ℕ) (t u : Bool) (v k : ℕ) → 6 ≤ length file → t ≡ wrongMark file → t ≡ false → v ≡ shortAt file 3 → v ≡ 1
-    → u ≡ wrongSize (getD file 5 0) → u ≡ false → length file ≤ 36870 → (length file - 6) % 9 ≡ 0 → k ≡ eventsIn file
+pub header-good : (file : List ℕ) (t u w : Bool) (v k : ℕ) → 6 ≤ length file → t ≡ wrongMark file → t ≡ false → v ≡ shortAt file 3 → v ≡ 1
+    → u ≡ wrongSize (getD file 5 0) → u ≡ false → length file ≤ 36870 → w ≡ broken file → w ≡ false → k ≡ eventsIn file
     → Good (getD file 5 0) k ≡ header file
-unfolding header wrongVersion byteAt broken
-header-good file t u v k l e h g o z y m b f =
-    rw (le-ltb (length file) 6 l, sym e ∙ h, sym g ∙ o, sym z ∙ y, le-ltb 36870 (length file) m, eq-eqb ((length file - 6) % 9) 0 b, f)
+unfolding header wrongVersion byteAt
+header-good file t u w v k l e h g o z y m b c f =
+    rw (le-ltb (length file) 6 l, sym e ∙ h, sym g ∙ o, sym z ∙ y, le-ltb 36870 (length file) m, sym b ∙ c, f)

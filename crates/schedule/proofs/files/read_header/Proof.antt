@@ -35,8 +35,8 @@ returns-4 c = search header-size
 returns-5 : tie.Need-returns-5
 returns-5 c = search header-long
 
-sub-if6 : tie.Need-sub-if6
-sub-if6 c = search needs
+broken-requires : tie.Need-broken-requires
+broken-requires c κs = search needs
 
 returns-6 : tie.Need-returns-6
 returns-6 c = search header-broken
@@ -64,7 +64,7 @@ read-header-spec =
     wrong-size-requires
     returns-4
     returns-5
-    sub-if6
+    broken-requires
     returns-6
     shared-slice-read-t8
     events-in-requires

@@ -38,7 +38,6 @@ loop-less : tie.Need-loop-less Inv-loop μ-loop
 loop-less c = search needs
 
 loop-again : tie.Need-loop-again Inv-loop μ-loop
-unfolding zeroRank
 loop-again c =
     let put = c .before .before in
     let turn = put .before .before .before in
