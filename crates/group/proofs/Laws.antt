@@ -10,3 +10,4 @@ pub mod Acting
 pub mod Lists
 pub mod Preserving
 pub mod Knowing
+pub mod Moving

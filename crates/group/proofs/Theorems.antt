@@ -1,11 +1,9 @@
 -- The promises of the group layer, each under a name that says it. Over any ancestor sets. Assumes nothing.
 use mathlib.Core.Path.{_≡_, refl, ap, _∙_}
 use mathlib.Core.Bool.{Bool, true, false, cond, _||_}
-use mathlib.Core.List.{[]}
 use mathlib.Core.Logic.{⊎-elim}
 use Prim.Native.Nat.{ℕ, _+_, _-_, _≤_, _<_}
 use native.Mathlib.Omega.{arith}
-use lib.Seq.{getD-set-other}
 use borrow.Author.Tests.{eq-eqb}
 use Rattle.sets.specs.Sets.{has}
 use Rattle.sets.proofs.Laws.Bools.{eq-or-ne}
@@ -14,14 +12,14 @@ use Rattle.tree.specs.Calls.{movedBelow}
 use Rattle.rank.specs.Words.{ask, up, down}
 use Rattle.rank.proofs.Laws.Knowing.{enter-moved, up-moved, down-moved, ask-moved, notice-moved}
 use Rattle.group.specs.declared.State.{State}
-use Rattle.group.specs.States.{zeroRank, rankAt, rowAt, placeAt}
+use Rattle.group.specs.States.{rankAt, rowAt, placeAt}
 use Rattle.group.specs.Refusing.{namesPlace}
 use Rattle.group.specs.Events.{size, idle, delivered, acting, placed, applied, carried, subjectOf, planOf, stepped}
 use Rattle.group.specs.Order.{Orderly}
 use Rattle.group.specs.Starting.{freshState}
 use Rattle.group.proofs.Laws.Ordering.{orderly-facts}
 use Rattle.group.proofs.Laws.Stepping.{step-plan, step-taken}
-use Rattle.group.proofs.Laws.Preserving.{fresh-orderly, step-keeps-order, stepped-cases, posted-long}
+use Rattle.group.proofs.Laws.Preserving.{fresh-orderly, step-keeps-order, step-changes-one, posted-long}
 
 -- A fresh group is in order.
 pub a-fresh-group-is-in-order : (anc : ℕ → ℕ) (n : ℕ) → 0 < n → n ≤ 64 → Orderly anc (freshState anc n)
@@ -34,10 +32,7 @@ an-event-keeps-order = step-keeps-order
 -- The step changes one rank's record and row, the dead set and the list, and nothing else.
 pub a-step-changes-one-rank : (anc : ℕ → ℕ) (s : State) (kind a b j : ℕ) → (j ≡ subjectOf s kind a → ⊥)
     → (stepped anc s kind a b .state .group .n ≡ s .group .n) × (rankAt (stepped anc s kind a b .state) j ≡ rankAt s j) × (rowAt (stepped anc s kind a b .state) j ≡ rowAt s j)
-unfolding applied rankAt rowAt
-a-step-changes-one-rank anc s kind a b j h =
-    stepped-cases anc s kind a b (λ t. (t .group .n ≡ s .group .n) × (rankAt t j ≡ rankAt s j) × (rowAt t j ≡ rowAt s j)) (refl, refl, refl)
-    (λ p e z. (refl, getD-set-other (s .group .ranks) (subjectOf s kind a) j (p .acted .rank) zeroRank h, getD-set-other (s .tables) (subjectOf s kind a) j (p .acted .row) [] h))
+a-step-changes-one-rank = step-changes-one
 
 -- ---- what an accepted event answers
 

@@ -257,6 +257,14 @@ stepped-cases anc s kind a b P same taken = go (eqb (planOf anc s kind a b .answ
     go true e = taken (planOf anc s kind a b) refl (eqb-true (planOf anc s kind a b .answer) 0 e)
     go false e = same
 
+-- The step changes one rank's record and row, the dead set and the list, and nothing else.
+pub step-changes-one : (anc : ℕ → ℕ) (s : State) (kind a b j : ℕ) → (j ≡ subjectOf s kind a → ⊥)
+    → (stepped anc s kind a b .state .group .n ≡ s .group .n) × (rankAt (stepped anc s kind a b .state) j ≡ rankAt s j) × (rowAt (stepped anc s kind a b .state) j ≡ rowAt s j)
+unfolding applied rankAt rowAt
+step-changes-one anc s kind a b j h =
+    stepped-cases anc s kind a b (λ t. (t .group .n ≡ s .group .n) × (rankAt t j ≡ rankAt s j) × (rowAt t j ≡ rowAt s j)) (refl, refl, refl)
+    (λ p e z. (refl, getD-set-other (s .group .ranks) (subjectOf s kind a) j (p .acted .rank) zeroRank h, getD-set-other (s .tables) (subjectOf s kind a) j (p .acted .row) [] h))
+
 -- An event on a state in order gives a state in order.
 pub step-keeps-order : (anc : ℕ → ℕ) (s : State) (kind a b : ℕ) → Orderly anc s → Orderly anc (stepped anc s kind a b .state)
 step-keeps-order anc s kind a b o =
