@@ -1,13 +1,14 @@
 -- A public contract leaves nothing open: two replies to the same call that meet it are the same. Assumes nothing.
-use mathlib.Core.Path.{_≡_, sym, _∙_}
+use mathlib.Core.Path.{_≡_}
 use contract.Lifetimes.{Lfts}
+use Rattle.sets.proofs.Laws.Alike.{alike}
 use Rattle.group.specs.declared.Started.{Started}
 use Rattle.group.specs.declared.Stepped.{Stepped}
 use Rattle.group.proofs.starting.start.Reads as start
 use Rattle.group.proofs.order.event.Reads as event
 
 pub start-determined : (κs : Lfts 0) (a : _) (t u : Started) (x y : _) → start.Post κs a t x → start.Post κs a u y → t ≡ u
-start-determined κs a t u x y e f = e ∙ sym f
+start-determined κs a t u x y e f = alike e f
 
 pub event-determined : (κs : Lfts 0) (a : _) (t u : Stepped) (x y : _) → event.Post κs a t x → event.Post κs a u y → t ≡ u
-event-determined κs a t u x y e f = e ∙ sym f
+event-determined κs a t u x y e f = alike e f

@@ -1,15 +1,15 @@
 -- The listing of a run, as bytes: numbers are decimal without leading zeros, fields one space apart, and each line ends in one line
 -- feed.
 use Prim.Native.Nat.{ℕ, zero, suc, _+_, _*_, _-_, _/_, _%_}
-use mathlib.Core.Bool.{Bool, cond}
+use mathlib.Core.Bool.{cond}
 use mathlib.Core.List.{List, [], _∷_, _++_}
 use lib.Dec.{eqb, ltb}
-use lib.ListN.{length, getD}
+use lib.ListN.{getD}
 use Rattle.sets.specs.Sets.{has}
 use Rattle.rank.specs.declared.Rank.{Rank}
 use Rattle.rank.specs.Words.{decided}
 use Rattle.group.specs.declared.State.{State}
-use Rattle.group.specs.States.{rankAt}
+use Rattle.group.specs.States.{zeroRank}
 use Rattle.schedule.specs.Files.{eventsIn}
 use Rattle.schedule.specs.Runs.{Run, run}
 
@@ -61,11 +61,14 @@ unfoldable pub lines : (ℕ → List ℕ) → ℕ → List ℕ
 lines f zero = []
 lines f (suc k) = lines f k ++ f k
 
+-- The rank lines of a state, ascending.
+unfoldable pub rankLines : State → List ℕ
+rankLines s = lines (λ i. rankLine (s .group .dead) i (getD (s .group .ranks) i zeroRank)) (s .group .n)
+
 -- The listing of a run of so many events, from its answers and its final state.
 unfoldable pub listing : ℕ → List ℕ → State → List ℕ
 listing events answers s =
-    firstLine (s .group .n) events
-    ++ (lines (eventLine answers) events ++ (lines (λ i. rankLine (s .group .dead) i (rankAt s i)) (s .group .n) ++ lastLine (s .group .count)))
+    firstLine (s .group .n) events ++ (lines (eventLine answers) events ++ (rankLines s ++ lastLine (s .group .count)))
 
 -- The only line of a refused run: the letters refused, and the number.
 unfoldable pub refusedLine : ℕ → List ℕ

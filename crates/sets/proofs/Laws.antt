@@ -3,3 +3,4 @@ pub mod Bools
 pub mod Members
 pub mod Searches
 pub mod Counts
+pub mod Alike

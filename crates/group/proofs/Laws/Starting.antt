@@ -78,6 +78,11 @@ pub start-of-none : (anc : ℕ → ℕ) → started anc 0 .state ≡ emptyState
 start-of-none anc = sym (ap (λ (x : Started). x .state) (start-refused anc 0 (wrongSize 0) emptyState refl size-none refl))
 
 -- an accepted start is of a size from 1 to 64 and gives the fresh group
+-- A size from 1 to 64 starts a fresh group.
+pub started-small : (anc : ℕ → ℕ) (n : ℕ) → wrongSize n ≡ false → (started anc n .answer ≡ 0) × (started anc n .state ≡ freshState anc n)
+unfolding started
+started-small anc n t = (rw t, rw t)
+
 pub started-fresh : (anc : ℕ → ℕ) (n : ℕ) → started anc n .answer ≡ 0 → (wrongSize n ≡ false) × (started anc n .state ≡ freshState anc n)
 unfolding started
 started-fresh anc n z = ⊎-elim (λ (t : wrongSize n ≡ true). absurd (bad t)) (λ (t : wrongSize n ≡ false). (t, rw t)) (passes-or-fails (wrongSize n))

@@ -106,6 +106,15 @@ pub step-plan : (anc : ℕ → ℕ) (s : State) (kind a b : ℕ) → stepped anc
 unfolding stepped carried refused
 step-plan anc s kind a b e = ⊎-elim (λ (t : eqb (planOf anc s kind a b .answer) 0 ≡ true). eqb-true (planOf anc s kind a b .answer) 0 t) (λ (t : eqb (planOf anc s kind a b .answer) 0 ≡ false). rw t at e) (passes-or-fails (eqb (planOf anc s kind a b .answer) 0))
 
+-- a refused event leaves the state as it was
+pub step-stays : (anc : ℕ → ℕ) (s : State) (kind a b : ℕ) → (stepped anc s kind a b .answer ≡ 0 → ⊥) → stepped anc s kind a b .state ≡ s
+unfolding stepped carried refused
+step-stays anc s kind a b d = go (passes-or-fails (eqb (planOf anc s kind a b .answer) 0))
+  where
+    go : (eqb (planOf anc s kind a b .answer) 0 ≡ true) ⊎ (eqb (planOf anc s kind a b .answer) 0 ≡ false) → stepped anc s kind a b .state ≡ s
+    go (inl t) = absurd (d (rw t))
+    go (inr t) = rw t
+
 pub step-taken : (anc : ℕ → ℕ) (s : State) (kind a b : ℕ) → stepped anc s kind a b .answer ≡ 0 → Taken anc s kind a b (planOf anc s kind a b)
 step-taken anc s kind a b e = plan-taken anc s kind a b (planOf anc s kind a b) refl (step-plan anc s kind a b e)
 

@@ -2,9 +2,9 @@
 use mathlib.Core.Path.{_≡_, sym, _∙_}
 use mathlib.Core.Bool.{Bool, true, false}
 use mathlib.Core.List.{List}
-use Prim.Native.Nat.{ℕ, _-_, _/_, _%_, _<_, _≤_}
+use Prim.Native.Nat.{ℕ, _-_, _<_, _≤_}
 use lib.ListN.{length, getD}
-use borrow.Author.Tests.{eq-eqb, ne-eqb, lt-ltb, le-ltb}
+use borrow.Author.Tests.{ne-eqb, lt-ltb, le-ltb}
 use Rattle.tree.specs.Calls.{wrongSize}
 use Rattle.schedule.specs.declared.Header.the-variants.{Good, Short, WrongMark, WrongVersion, WrongSize, TooLong, Broken}
 use Rattle.schedule.specs.Files.{byteAt, shortAt, wrongMark, wrongVersion, broken, eventsIn, header}

@@ -1,5 +1,5 @@
 -- The lines of a listing: how long they can be, and a number's digits from the first to the last. Assumes nothing.
-use mathlib.Core.Path.{_≡_, refl, sym, ap, subst, _∙_}
+use mathlib.Core.Path.{_≡_, sym, ap, subst, _∙_}
 use mathlib.Core.Bool.{Bool, true, false, cond}
 use mathlib.Core.List.{List, [], _∷_, _++_}
 use mathlib.Core.Logic.{_⊎_, inl, inr}
@@ -12,14 +12,14 @@ use mir.Val.{Fits}
 use lib.Dec.{eqb, ltb}
 use lib.ListN.{length, getD, take, length-append}
 use lib.Seq.{take-suc, take-all, length-take-le}
-use borrow.Author.Tests.{eq-eqb, ne-eqb, lt-ltb, le-ltb, ltb-true, ltb-false}
+use borrow.Author.Tests.{eq-eqb, ne-eqb, lt-ltb, le-ltb, ltb-false}
 use Rattle.sets.proofs.Laws.Bools.{passes-or-fails}
 use Rattle.rank.specs.declared.Rank.{Rank}
 use Rattle.rank.specs.Words.{decided}
 use Rattle.group.specs.declared.State.{State}
-use Rattle.group.specs.States.{rankAt}
+use Rattle.group.specs.States.{zeroRank}
 use Rattle.schedule.specs.Writing.{Wrote}
-use Rattle.schedule.specs.Listings.{digitsOf, decimal, field, feed, firstLine, eventLine, living, resultField, rankLine, lastLine, lines, listing, refusedLine}
+use Rattle.schedule.specs.Listings.{digitsOf, decimal, field, feed, firstLine, eventLine, living, resultField, rankLine, lastLine, lines, rankLines, listing, refusedLine}
 use Rattle.schedule.proofs.Laws.Writing.{wrote-nothing, wrote-then, wrote-kept, wrote-room}
 
 -- ---- digits
@@ -234,11 +234,11 @@ unfolding refusedLine feed
 length-refused number = omega (arith, length-append (field number) (10 ∷ []), length-field number)
 
 pub length-listing : (events : ℕ) (answers : List ℕ) (s : State) → length (listing events answers s) ≤ 50 + 44 * events + 46 * s .group .n
-unfolding listing
+unfolding listing rankLines
 length-listing events answers s =
     let first = firstLine (s .group .n) events in
     let middle = lines (eventLine answers) events in
-    let ranks = lines (λ i. rankLine (s .group .dead) i (rankAt s i)) (s .group .n) in
+    let ranks = lines (λ i. rankLine (s .group .dead) i (getD (s .group .ranks) i zeroRank)) (s .group .n) in
     let last = lastLine (s .group .count) in
     omega (
       arith,
@@ -247,6 +247,6 @@ length-listing events answers s =
       length-append ranks last,
       length-first (s .group .n) events,
       length-lines (eventLine answers) 44 events (length-event answers),
-      length-lines (λ i. rankLine (s .group .dead) i (rankAt s i)) 46 (s .group .n) (λ i. length-rank (s .group .dead) i (rankAt s i)),
+      length-lines (λ i. rankLine (s .group .dead) i (getD (s .group .ranks) i zeroRank)) 46 (s .group .n) (λ i. length-rank (s .group .dead) i (getD (s .group .ranks) i zeroRank)),
       length-last (s .group .count),
     )

@@ -16,6 +16,7 @@ use Rattle.group.specs.declared.State.{State}
 use Rattle.group.specs.declared.Started.{Started}
 use Rattle.group.specs.Order.{Orderly}
 use Rattle.group.specs.Starting.{freshState, started}
+use Rattle.group.proofs.Laws.Starting.{started-small}
 use Rattle.group.proofs.Laws.Preserving.{fresh-orderly}
 use Rattle.schedule.specs.declared.Header.{Header}
 use Rattle.schedule.specs.declared.Header.the-variants.{Good, Short, WrongMark, WrongVersion, WrongSize, TooLong, Broken}
@@ -96,11 +97,9 @@ good-opened file n t e = short (passes-or-fails (ltb (length file) 6))
 
 -- The group that a good header starts is in order.
 pub opened-orderly : (file : List ℕ) (n t : ℕ) (h : Header) (u : Started) → h ≡ header file → h ≡ Good n t → u ≡ started flat n → Orderly flat (u .state)
-unfolding started
 opened-orderly file n t h u e f g =
     let o = good-opened file n t (sym f ∙ e) in
-    let w : _≡_ {A = Started} (started flat n) (record { answer = 0; state = freshState flat n }) = rw (o .size) in
-    let q : u .state ≡ freshState flat n = ap (λ (x : Started). x .state) (g ∙ w) in
+    let q : u .state ≡ freshState flat n = ap (λ (x : Started). x .state) g ∙ started-small flat n (o .size) .1 in
     subst (Orderly flat) (sym q) (fresh-orderly flat n (size-pos n (o .size)) (size-le n (wrongSize n) refl (o .size)))
 
 pub opened-whole : (file : List ℕ) (n t : ℕ) (h : Header) → h ≡ header file → h ≡ Good n t → 6 + 9 * t ≤ length file
@@ -141,11 +140,10 @@ run-no-room file out h n t a s e f l = refused-parts file out h 25 a s e (opened
 pub run-accepted : (file out v : List ℕ) (h : Header) (n t : ℕ) (u : Started) (s : State) → h ≡ header file → h ≡ Good n t → 3 * t ≤ length out → u ≡ started flat n
     → s ≡ played flat file t 0 (u .state) out .state → v ≡ played flat file t 0 (u .state) out .answers
     → (0 ≡ run flat file out .answer) × ((s ≡ run flat file out .state) × (v ≡ run flat file out .answers))
-unfolding run opened acceptedRun started
+unfolding run opened acceptedRun
 run-accepted file out v h n t u s e f l g i j =
     let o = good-opened file n t (sym f ∙ e) in
-    let w : _≡_ {A = Started} (started flat n) (record { answer = 0; state = freshState flat n }) = rw (o .size) in
-    let q : u .state ≡ freshState flat n = ap (λ (x : Started). x .state) (g ∙ w) in
+    let q : u .state ≡ freshState flat n = ap (λ (x : Started). x .state) g ∙ started-small flat n (o .size) .1 in
     parts-of file out v 0 s (acceptedRun (played flat file t 0 (freshState flat n) out))
     (ap (opened flat file out) (sym e ∙ f) ∙ rw (le-ltb (length out) (3 * t) l)) refl
     (i ∙ ap (λ (x : State). played flat file t 0 x out .state) q) (j ∙ ap (λ (x : State). played flat file t 0 x out .answers) q)

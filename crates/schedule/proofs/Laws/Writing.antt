@@ -1,9 +1,9 @@
 -- Writing into a lent buffer: one piece of text after the other is their concatenation, and the buffer keeps its length. Assumes nothing.
-use mathlib.Core.Path.{_≡_, refl, sym, ap, subst, _∙_}
+use mathlib.Core.Path.{_≡_, refl, sym, ap, _∙_}
 use mathlib.Core.List.{List, [], _∷_, _++_}
-use Prim.Native.Nat.{ℕ, zero, suc, _+_, _*_, _≤_, _<_}
+use Prim.Native.Nat.{ℕ, _+_, _≤_}
 use native.Mathlib.Omega.{arith}
-use lib.ListN.{length, getD, set, take, length-set, length-append}
+use lib.ListN.{length, set, length-set, length-append}
 use Rattle.schedule.specs.Writing.{pasted, Wrote}
 
 length-pasted : (text : List ℕ) (at : ℕ) (l : List ℕ) → length (pasted text at l) ≡ length text

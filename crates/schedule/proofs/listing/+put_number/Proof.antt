@@ -1,6 +1,5 @@
 -- `put_number` meets its contract, by induction on the number: a tenth of it is smaller. Assumes nothing.
 use Rattle.schedule.proofs.Laws.Lines.{number-one, number-more, number-room}
-use Rattle.schedule.proofs.Laws.Writing.{wrote-kept}
 use native.Mathlib.Omega.{arith}
 use borrow.Author.Needs.{needs}
 use Prim.Native.Nat.{ℕ, _<_}

@@ -1,9 +1,8 @@
 -- `list` meets its contract: the first line, the event lines, the rank lines and the last. Assumes nothing.
-use Rattle.schedule.proofs.Laws.Writing.{wrote-then, wrote-kept}
+use Rattle.schedule.proofs.Laws.Writing.{wrote-then}
 use Rattle.schedule.proofs.Laws.Lines.{room-events, room-ranks, room-last, length-rank}
 use native.Mathlib.Omega.{arith}
-use Rattle.group.specs.States.{rankAt}
-use Rattle.schedule.specs.Listings.{listing}
+use Rattle.schedule.specs.Listings.{rankLines, listing}
 use borrow.Author.Needs.{needs}
 use Rattle.schedule.proofs.listing.list.Statement.{statement}
 use Rattle.schedule.proofs.listing.list.Tie as tie
@@ -36,7 +35,7 @@ same-length : tie.Need-same-length
 same-length c = search needs
 
 returns : tie.Need-returns
-unfolding listing rankAt
+unfolding listing rankLines
 returns c =
     let last = c .before .before in
     let third = last .before .before .before .before in

@@ -1,9 +1,7 @@
 -- `put_letters` meets its contract: before letter i the first i stand. Assumes nothing.
 use Rattle.schedule.proofs.Laws.Lines.{Spelling, spelling-start, spelling-byte, spelling-step, spelling-end}
-use mathlib.Core.Path.{refl}
 use Rattle.schedule.proofs.Laws.Writing.{wrote-kept}
 use Prim.Native.Nat.{_-_}
-use native.Mathlib.Omega.{arith}
 use lib.ListN.{length}
 use borrow.Author.Needs.{needs}
 use Rattle.schedule.proofs.listing.put_letters.Statement.{statement}

@@ -1,5 +1,5 @@
 -- `put_result` meets its contract: one test. Assumes nothing.
-use Rattle.schedule.proofs.Laws.Writing.{wrote-then, wrote-room}
+use Rattle.schedule.proofs.Laws.Writing.{wrote-room}
 use native.Mathlib.Omega.{arith}
 use Rattle.schedule.proofs.Laws.Lines.{result-decided, result-dash}
 use borrow.Author.Needs.{needs}

@@ -1,5 +1,5 @@
 -- `report` meets its contract: a refused run has its one line, an accepted one its listing. Assumes nothing.
-use Rattle.schedule.proofs.Laws.Ending.{Ended, run-ended, report-refused, report-listed}
+use Rattle.schedule.proofs.Laws.Ending.{run-ended, report-refused, report-listed}
 use native.Mathlib.Omega.{arith}
 use borrow.Author.Needs.{needs}
 use Rattle.schedule.proofs.listing.report.Statement.{statement}
