@@ -148,6 +148,8 @@ witnesses =
     ∷ eqb (numberOf (header (file 1 (0 ∷ [])))) 23
     ∷ eqb (numberOf (header (file 1 (replicate 36865 0)))) 24
     ∷ eqb (run flat (file 1 (then 1 0 9 [])) [] .answer) 25
+    -- the last unmarked rank may be marked
+    ∷ eqb (marked flat 1 0 (fresh flat 1 0) 0 .answer) 0
     -- A lost message; and document 01's example, in which ranks enter, take UP, DOWN and ASK, are told of a death, settle, decide and
     -- crash, and a message from a marked sender is dropped.
     ∷ eqb (event flat widowed 5 0 0 .answer) 0
