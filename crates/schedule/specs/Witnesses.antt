@@ -1,19 +1,21 @@
 -- No promise is empty: for each refusal number a state, an event or a file that gets it, and for each rule an accepted event that uses
 -- it, as one list of tests.
 use Prim.Native.Nat.{ℕ}
-use mathlib.Core.Bool.{Bool}
+use mathlib.Core.Bool.{Bool, _&&_}
 use mathlib.Core.List.{List, [], _∷_}
 use lib.Dec.{eqb}
 use lib.ListN.{replicate}
+use Rattle.sets.specs.Sets.{has}
 use Rattle.tree.specs.Tree.{flat, fresh}
 use Rattle.tree.specs.Calls.{same, marked, climbed}
+use Rattle.rank.specs.declared.Rank.{Rank}
 use Rattle.group.specs.declared.State.{State}
 use Rattle.group.specs.Net.{inFlight}
-use Rattle.group.specs.States.{joined}
+use Rattle.group.specs.States.{joined, rankAt}
 use Rattle.group.specs.Order.{event}
 use Rattle.group.specs.Starting.{emptyState, started}
 use Rattle.schedule.specs.Files.{header, numberOf}
-use Rattle.schedule.specs.Runs.{run}
+use Rattle.schedule.specs.Runs.{stepAt, played, run}
 use Rattle.schedule.specs.Listings.{report}
 
 -- ---- files
@@ -84,6 +86,17 @@ threeListing =
 
 -- ---- states
 
+-- The example after its first k events, and its rank i.
+unfoldable pub later : ℕ → State
+later k = played flat three k 0 (started flat 3 .state) [] .state
+
+unfoldable pub seen : ℕ → ℕ → Rank
+seen k i = rankAt (later k) i
+
+-- Event k of the example is accepted.
+unfoldable pub goes : ℕ → Bool
+goes k = eqb (stepAt flat three k (later k) .answer) 0
+
 unfoldable pub one : State
 one = started flat 1 .state
 
@@ -150,8 +163,24 @@ witnesses =
     ∷ eqb (run flat (file 1 (then 1 0 9 [])) [] .answer) 25
     -- the last unmarked rank may be marked
     ∷ eqb (marked flat 1 0 (fresh flat 1 0) 0 .answer) 0
-    -- A lost message; and document 01's example, in which ranks enter, take UP, DOWN and ASK, are told of a death, settle, decide and
-    -- crash, and a message from a marked sender is dropped.
+    -- Enter, with settle: rank 2 reports and waits.
+    ∷ (goes 0 && eqb (seen 1 2 .phase) 2)
+    -- UP: rank 1 has heard rank 2.
+    ∷ (goes 3 && has (seen 4 1 .heard) 2)
+    -- Decide: the root has heard its child, and settles on 4.
+    ∷ (goes 4 && eqb (seen 5 0 .phase) 3 && eqb (seen 5 0 .result) 4)
+    -- A crash: rank 0 is dead.
+    ∷ (goes 5 && has (later 6 .group .dead) 0)
+    -- Notice: rank 1 marks its parent, becomes root and gathers again.
+    ∷ (goes 6 && has (seen 7 1 .marks) 0 && eqb (seen 7 1 .phase) 1)
+    -- A message from a marked sender is dropped: rank 1 goes on gathering.
+    ∷ (goes 7 && eqb (seen 8 1 .phase) 1)
+    -- ASK: rank 2 marks rank 0, owes rank 1, and reports to it.
+    ∷ (goes 8 && has (seen 9 2 .marks) 0 && has (seen 9 2 .owed) 1 && eqb (seen 9 2 .phase) 2)
+    -- DOWN: rank 2 decides 6.
+    ∷ (goes 10 && eqb (seen 11 2 .phase) 3 && eqb (seen 11 2 .result) 6)
+    -- A lost message.
     ∷ eqb (event flat widowed 5 0 0 .answer) 0
+    -- The whole example prints its listing.
     ∷ same (report flat three (replicate 36 0)) threeListing
     ∷ []
