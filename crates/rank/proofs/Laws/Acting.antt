@@ -1,7 +1,7 @@
 -- The rules along their code: each test on the way picks the definition's case. A value is a variable with an equation, so that a
 -- method's proof names the law alone. Assumes nothing.
-use mathlib.Core.Path.{_≡_, refl, sym, ap, _∙_}
-use mathlib.Core.Bool.{Bool, true, false, cond, _&&_, _||_}
+use mathlib.Core.Path.{_≡_, sym, ap, _∙_}
+use mathlib.Core.Bool.{Bool, true, false, _&&_, _||_}
 use mathlib.Core.List.{List}
 use Prim.Native.Nat.{ℕ, _<_}
 use native.Mathlib.Omega.{arith}
@@ -27,6 +27,7 @@ use Rattle.rank.specs.Records.{becoming, combining, concluding, owing, p
 use Rattle.rank.specs.Sends.{silent, reports, tells, asks}
 use Rattle.rank.specs.Rules.{inPhase, saying, deciding, settled, done, settling, entering, raised, takingUp, lowered, takingDown, asked, takingAsk, orphaned, inheriting, bereaved, noticing}
 use Rattle.rank.specs.Order.{Kept}
+use Rattle.rank.proofs.Laws.Knowing.{asked-marks, bereaved-marks}
 
 module _ (anc : ℕ → ℕ) where
   -- ---- the row is the table of the rank's own view
@@ -194,18 +195,8 @@ module _ (anc : ℕ → ℕ) where
       let u : eqb (r .phase) waiting && eqb (parentOf anc me r) q ≡ false = ap (λ (x : ℕ). eqb (r .phase) waiting && eqb x q) (sym (kept-parent n me r row k)) ∙ t in
       rw (ne-eqb (r .phase) decided p, u, f, e)
 
-  -- the view is left alone
-  asked-marks : (n me q : ℕ) (r : Rank) → asked anc n me q r .rank .marks ≡ r .marks
-  unfolding asked saying owing
-  asked-marks n me q r = go (inPhase decided r) (inPhase waiting r && eqb (parentOf anc me r) q)
-    where
-      go : (a b : Bool) → cond a (saying r (tells (r .result) (only q))) (cond b (saying (owing q r) (reports r q)) (saying (owing q r) silent)) .rank .marks ≡ r .marks
-      go true b = refl
-      go false true = refl
-      go false false = refl
-
   pub kept-asked : (n me q : ℕ) (r : Rank) (row : List ℕ) (s : Said) → Kept anc n me r row → s ≡ asked anc n me q r → Kept anc n me (s .rank) row
-  kept-asked n me q r row s k e = kept-said n me r row s k (ap (λ (x : Said). x .rank .marks) e ∙ asked-marks n me q r)
+  kept-asked n me q r row s k e = kept-said n me r row s k (ap (λ (x : Said). x .rank .marks) e ∙ asked-marks anc n me q r)
 
   pub ask-returns : (n me q : ℕ) (r v : Rank) (m : Mended) (s : Said) (a : Acted) → m ≡ mendedBelow anc n (r .marks) q → v ≡ viewing anc n me (m .marks) r → s ≡ asked anc n me q v
       → a ≡ settling anc n me (saying (s .rank) (s .send)) (m .moved) → a ≡ takingAsk anc n me q r
@@ -255,19 +246,8 @@ module _ (anc : ℕ → ℕ) where
   unfolding bereaved saying
   bereave-other n me q r v row s k l f t u es = rw (was-parent n me q r row false k t, was-child n me q r row false k l f u, es)
 
-  -- the view is left alone
-  bereaved-marks : (n me q : ℕ) (r v : Rank) → bereaved anc n me q r v .rank .marks ≡ v .marks
-  unfolding bereaved orphaned inheriting saying becoming hearing
-  bereaved-marks n me q r v = go (inPhase waiting r && eqb (parentOf anc me r) q) (eqb (parentOf anc me v) none) (inPhase gathering r && eqb (parentOf anc me r) none && has (childrenOf anc n me r) q)
-    where
-      go : (a b c : Bool) → cond a (cond b (saying (becoming gathering (hearing anc n me 0 v)) (asks (childrenOf anc n me v))) (saying v (reports v (parentOf anc me v)))) (cond c (inheriting anc n me q r v) (saying v silent)) .rank .marks ≡ v .marks
-      go true true c = refl
-      go true false c = refl
-      go false b true = refl
-      go false b false = refl
-
   pub kept-bereaved : (n me q : ℕ) (r v : Rank) (row : List ℕ) (s : Said) → Kept anc n me v row → s ≡ bereaved anc n me q r v → Kept anc n me (s .rank) row
-  kept-bereaved n me q r v row s k e = kept-said n me v row s k (ap (λ (x : Said). x .rank .marks) e ∙ bereaved-marks n me q r v)
+  kept-bereaved n me q r v row s k e = kept-said n me v row s k (ap (λ (x : Said). x .rank .marks) e ∙ bereaved-marks anc n me q r v)
 
   pub notice-again : (n me q : ℕ) (r : Rank) (row : List ℕ) (b : Bool) (s s′ : Send) → Kept anc n me r row → b ≡ has (r .marks) q → b ≡ true → s ≡ silent → s′ ≡ silent
       → _≡_ {A = Acted} (record { rank = r; row = row; first = s; second = s′; moved = 0 }) (noticing anc n me q r)

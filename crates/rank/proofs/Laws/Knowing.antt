@@ -45,9 +45,13 @@ module _ (anc : ℕ → ℕ) (n me : ℕ) where
   unfolding takingDown done saying deciding concluding
   down-marks x r = lowered-by anc n me (Keeps (r .marks)) x r (λ e. refl) (λ e f. refl)
 
+  pub asked-marks : (q : ℕ) (r : Rank) → Keeps (r .marks) (asked anc n me q r)
+  unfolding saying owing
+  asked-marks q r = asked-by anc n me (Keeps (r .marks)) q r (λ e. refl) (λ e f. refl) (λ e f. refl)
+
   pub ask-marks : (q : ℕ) (r : Rank) → takingAsk anc n me q r .rank .marks ≡ union (r .marks) (below q)
-  unfolding takingAsk saying owing viewing
-  ask-marks q r = settling-marks (asked anc n me q v) (movedBelow anc n (r .marks) q) after (asked-by anc n me (Keeps after) q v (λ e. refl) (λ e f. refl) (λ e f. refl))
+  unfolding takingAsk viewing
+  ask-marks q r = settling-marks (asked anc n me q v) (movedBelow anc n (r .marks) q) after (asked-marks q v)
     where
       after : ℕ
       after = union (r .marks) (below q)
@@ -55,7 +59,7 @@ module _ (anc : ℕ → ℕ) (n me : ℕ) where
       v : Rank
       v = viewing anc n me after r
 
-  bereaved-marks : (q : ℕ) (r v : Rank) → Keeps (v .marks) (bereaved anc n me q r v)
+  pub bereaved-marks : (q : ℕ) (r v : Rank) → Keeps (v .marks) (bereaved anc n me q r v)
   unfolding saying becoming hearing inheriting
   bereaved-marks q r v = bereaved-by anc n me (Keeps (v .marks)) q r v (λ e f. orphaned-by anc n me (Keeps (v .marks)) v (λ z. refl) (λ z. refl)) (λ e z h. refl) (λ g h. refl)
 
