@@ -54,12 +54,16 @@ module _ (anc : ℕ → ℕ) (n me : ℕ) where
   unfoldable pub entering : ℕ → Rank → Acted
   entering w r = settling (saying (becoming gathering (combining w r)) silent) 0
 
-  -- UP x from q. If decided, send DOWN result to q. Else q joins heard, word becomes word AND x. Then settle.
+  -- A report x from q: q joins heard and owed, word becomes word AND x.
+  unfoldable pub noting : ℕ → ℕ → Rank → Rank
+  noting q x r = owing q (combining x (hearing anc n me (add (r .heard) q) r))
+
+  -- UP x from q. If decided, send DOWN result to q. Else note the report. Then settle.
   unfoldable pub raised : ℕ → ℕ → Rank → Said
   raised q x r =
       cond (inPhase decided r)
       (saying r (tells (r .result) (only q)))
-      (saying (combining x (hearing anc n me (add (r .heard) q) r)) silent)
+      (saying (noting q x r) silent)
 
   unfoldable pub takingUp : ℕ → ℕ → Rank → Acted
   takingUp q x r = settling (raised q x r) 0
@@ -86,11 +90,14 @@ module _ (anc : ℕ → ℕ) (n me : ℕ) where
 
   -- Notice that q is dead. If waiting and q was the parent: with a new parent, send it UP word; with none, empty heard, become gathering
   -- and ASK all children.
+  unfoldable pub renewing : Rank → Said
+  renewing r = saying r (reports r (parentOf anc me r))
+
+  unfoldable pub regathering : Rank → Said
+  regathering r = saying (becoming gathering (hearing anc n me 0 r)) (asks (childrenOf anc n me r))
+
   unfoldable pub orphaned : Rank → Said
-  orphaned r =
-      cond (eqb (parentOf anc me r) none)
-      (saying (becoming gathering (hearing anc n me 0 r)) (asks (childrenOf anc n me r)))
-      (saying r (reports r (parentOf anc me r)))
+  orphaned r = cond (eqb (parentOf anc me r) none) (regathering r) (renewing r)
 
   -- If gathering, without a parent before the mark, and q was a child: ASK each child gained from q, that is, each whose parent was q.
   unfoldable pub inheriting : ℕ → Rank → Rank → Said

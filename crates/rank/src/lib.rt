@@ -252,6 +252,7 @@ impl Rank {
             return self.settle(n, me, row, Send::down(self.result, sets::only(q)), 0);
         }
         self.heard = sets::with(self.heard, q);
+        self.owed = sets::with(self.owed, q);
         self.awaited = sets::minus(self.awaited, sets::only(q));
         self.word = combine(self.word, x);
         self.settle(n, me, row, Send::silent(), 0)

@@ -1,5 +1,6 @@
 // Runs one rank through hand-made situations, one for each branch of each rule, and prints its record, its sends and moved.
-// The file stdout beside src/ was worked out by hand from document 01; each case names the sentence that it comes from.
+// The file stdout beside src/ was worked out by hand from document 01 and request 2026-04 (who reports to an undecided rank is owed);
+// each case names the sentence that it comes from.
 use libc::STDOUT_FILENO;
 use rank::Acted;
 use rank::Rank;
@@ -170,7 +171,7 @@ fn ups() {
     c.result = 4;
     act(c, 2, 5, 7);
     text(
-        b"UP: Else q joins heard, word becomes word AND x. (rank 1 gathering, from 2; 3 still awaited)\n",
+        b"UP: Else q joins heard and owed, word becomes word AND x. (rank 1 gathering, from 2; 3 still awaited)\n",
     );
     act(seven(1, 1, 7), 2, 2, 5);
     text(b"UP, then settle: awaited is empty, UP word to its parent. (rank 1, from 3, the last)\n");
@@ -179,7 +180,16 @@ fn ups() {
     act(c, 2, 3, 3);
     text(b"UP, then settle: no parent, decides its word. (rank 0, from 1, the last)\n");
     act(seven(0, 1, 7), 2, 1, 6);
-    text(b"UP to a rank outside: q joins heard, word becomes word AND x. (rank 2, from 4)\n");
+    text(
+        b"UP, then settle: decides its word; DOWN to its child and to whom it owes. (rank 0, from 1, the last; 2 reported before)\n",
+    );
+    c = seven(0, 1, 7);
+    c.heard = 4;
+    c.owed = 4;
+    act(c, 2, 1, 6);
+    text(
+        b"UP to a rank outside: q joins heard and owed, word becomes word AND x. (rank 2, from 4)\n",
+    );
     act(seven(2, 0, 0xffff_ffff), 2, 4, 6);
     text(b"UP to a waiting rank: the same, and settle does nothing. (rank 2, from 4 again)\n");
     c = seven(2, 2, 6);

@@ -165,8 +165,8 @@ witnesses =
     ∷ eqb (marked flat 1 0 (fresh flat 1 0) 0 .answer) 0
     -- Enter, with settle: rank 2 reports and waits.
     ∷ (goes 0 && eqb (seen 1 2 .phase) 2)
-    -- UP: rank 1 has heard rank 2.
-    ∷ (goes 3 && has (seen 4 1 .heard) 2)
+    -- UP: rank 1 has heard rank 2, and owes it.
+    ∷ (goes 3 && has (seen 4 1 .heard) 2 && has (seen 4 1 .owed) 2)
     -- Decide: the root has heard its child, and settles on 4.
     ∷ (goes 4 && eqb (seen 5 0 .phase) 3 && eqb (seen 5 0 .result) 4)
     -- A crash: rank 0 is dead.

@@ -97,16 +97,29 @@ mod tests {
         assert_eq!(listing(&write(3, &events)), wanted);
     }
 
+    const EXAMPLES: &str = concat!(env!("CARGO_MANIFEST_DIR"), "/../../examples");
+
+    fn example(file: &str) -> String {
+        std::fs::read_to_string(format!("{EXAMPLES}/{file}")).expect("an example")
+    }
+
     #[test]
     fn examples() {
-        let dir = concat!(env!("CARGO_MANIFEST_DIR"), "/../../examples");
-        for name in ["three", "broken_middle", "root_dies", "sixty_four"] {
-            let text = std::fs::read_to_string(format!("{dir}/{name}.events")).expect("events");
-            let bytes = std::fs::read(format!("{dir}/{name}.agr")).expect("a schedule");
-            let wanted = std::fs::read_to_string(format!("{dir}/{name}.listing")).expect("a listing");
-            assert_eq!(written(&text), bytes, "{name}");
-            assert_eq!(listing(&bytes), wanted, "{name}");
+        for name in ["three", "broken_middle", "root_dies", "sixty_four", "reporter_hangs"] {
+            let bytes = std::fs::read(format!("{EXAMPLES}/{name}.agr")).expect("a schedule");
+            assert_eq!(written(&example(&format!("{name}.events"))), bytes, "{name}");
+            assert_eq!(listing(&bytes), example(&format!("{name}.listing")), "{name}");
         }
+    }
+
+    /// Without request 2026-04 the root's decision is sent once, to the dead rank, and nothing is left in flight.
+    #[test]
+    fn reporter_hangs_before() {
+        let (before, after) = (example("reporter_hangs_before.listing"), example("reporter_hangs.listing"));
+        let pairs = before.lines().zip(after.lines());
+        let differing: Vec<_> = pairs.filter(|(b, a)| b != a).collect();
+        assert_eq!(before.lines().count(), after.lines().count());
+        assert_eq!(differing, [("7 0 1 0", "7 0 2 0"), ("m 0", "m 1")]);
     }
 
     #[test]

@@ -1,4 +1,4 @@
-//! A second opinion on schedules, written from document 01 alone.
+//! A second opinion on schedules, written from document 01 and request 2026-04 alone.
 //!
 //!     model listing < FILE             the listing that FILE must have
 //!     model write < EVENTS > FILE      the schedule that a text describes: `n SIZE`, then `KIND A B` lines, `#` comments

@@ -185,3 +185,25 @@ pub fn schedule(random: &mut Random) -> Vec<u8> {
     };
     write(n as u8, &events)
 }
+
+#[cfg(test)]
+mod tests {
+    use super::*;
+
+    /// Request 2026-04: when nothing is left to do, every living rank has decided.
+    #[test]
+    fn nobody_hangs() {
+        for seed in 0..100 {
+            let random = &mut Random::new(seed);
+            let manner = Manner { crash: 3 + random.below(40), notice: 2 + random.below(20), reorder: random.one_in(2) };
+            let mut g = Group::start(random.size());
+            while let Some(e) = likely(random, &g, &manner) {
+                g.event(e);
+            }
+            assert!(g.net.is_empty() && owed_notices(&g).is_empty(), "{seed}");
+            for a in (0..g.n).filter(|a| g.lives(*a)) {
+                assert_eq!(g.ranks[a as usize].phase, Phase::Decided, "{seed}: {a}");
+            }
+        }
+    }
+}

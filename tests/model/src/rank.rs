@@ -1,4 +1,4 @@
-//! Document 01, "What a rank holds" and "What a rank does".
+//! Document 01, "What a rank holds" and "What a rank does", with request 2026-04: who reports to an undecided rank is owed.
 
 use crate::tree::{children, moved, parent, Set};
 
@@ -92,6 +92,7 @@ impl Rank {
                     done.sends.push((q, Body::Down(self.result)));
                 } else {
                     self.heard.insert(q);
+                    self.owed.insert(q);
                     self.word &= x;
                 }
                 self.settle(&mut done);

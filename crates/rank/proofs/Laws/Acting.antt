@@ -25,7 +25,7 @@ use Rattle.rank.specs.declared.Acted.{Acted}
 use Rattle.rank.specs.Words.{gathering, waiting, decided, combine}
 use Rattle.rank.specs.Records.{becoming, combining, concluding, owing, parentOf, childrenOf, awaiting, hearing, viewing}
 use Rattle.rank.specs.Sends.{silent, reports, tells, asks}
-use Rattle.rank.specs.Rules.{inPhase, saying, deciding, settled, done, settling, entering, raised, takingUp, lowered, takingDown, asked, takingAsk, orphaned, inheriting, bereaved, noticing}
+use Rattle.rank.specs.Rules.{inPhase, saying, deciding, settled, done, settling, entering, noting, raised, takingUp, lowered, takingDown, asked, takingAsk, renewing, regathering, orphaned, inheriting, bereaved, noticing}
 use Rattle.rank.specs.Order.{Kept}
 use Rattle.rank.proofs.Laws.Knowing.{asked-marks, bereaved-marks}
 
@@ -121,14 +121,14 @@ module _ (anc : ℕ → ℕ) where
   unfolding awaiting
   fewer-awaited n me r q e = ap (λ (w : ℕ). minus w (only q)) e ∙ minus-minus (children anc n (r .marks) me) (r .heard) q
 
-  pub up-undecided : (n me : ℕ) (r : Rank) (q x h o w y : ℕ) (s : Send) (a : Acted) → r .awaited ≡ awaiting anc n me (r .marks) (r .heard) → (r .phase ≡ decided → ⊥)
-      → h ≡ add (r .heard) q → o ≡ only q → w ≡ minus (r .awaited) o → y ≡ combine (r .word) x → s ≡ silent
-      → a ≡ settling anc n me (saying (record { phase = r .phase; marks = r .marks; heard = h; awaited = w; owed = r .owed; word = y; result = r .result }) s) 0
+  pub up-undecided : (n me : ℕ) (r : Rank) (q x h v o w y : ℕ) (s : Send) (a : Acted) → r .awaited ≡ awaiting anc n me (r .marks) (r .heard) → (r .phase ≡ decided → ⊥)
+      → h ≡ add (r .heard) q → v ≡ add (r .owed) q → o ≡ only q → w ≡ minus (r .awaited) o → y ≡ combine (r .word) x → s ≡ silent
+      → a ≡ settling anc n me (saying (record { phase = r .phase; marks = r .marks; heard = h; awaited = w; owed = v; word = y; result = r .result }) s) 0
       → a ≡ takingUp anc n me q x r
-  unfolding takingUp raised inPhase combining hearing
-  up-undecided n me r q x h o w y s a f p eh eo ew ey es g =
+  unfolding takingUp raised noting inPhase owing combining hearing
+  up-undecided n me r q x h v o w y s a f p eh ev eo ew ey es g =
       let e : w ≡ awaiting anc n me (r .marks) (add (r .heard) q) = ew ∙ ap (minus (r .awaited)) eo ∙ fewer-awaited n me r q f in
-      g ∙ rw (ne-eqb (r .phase) decided p, eh, e, ey, es)
+      g ∙ rw (ne-eqb (r .phase) decided p, eh, ev, e, ey, es)
 
   pub decide-returns : (n me : ℕ) (r : Rank) (row : List ℕ) (x c u t : ℕ) (s : Send) → c ≡ children anc n (r .marks) me → u ≡ union c (r .owed) → t ≡ minus u (r .marks) → s ≡ tells x t
       → _≡_ {A = Said} (record { rank = record { phase = decided; marks = r .marks; heard = r .heard; awaited = r .awaited; owed = r .owed; word = r .word; result = x }; send = s }) (deciding anc n me x r)
@@ -206,14 +206,14 @@ module _ (anc : ℕ → ℕ) where
   -- ---- notice
 
   pub orphan-reports : (n me : ℕ) (r : Rank) (row : List ℕ) (s : Send) → Kept anc n me r row → (getD row me 0 ≡ none → ⊥) → s ≡ reports r (getD row me 0) → _≡_ {A = Said} (record { rank = r; send = s }) (orphaned anc n me r)
-  unfolding orphaned saying
+  unfolding orphaned regathering renewing saying
   orphan-reports n me r row s k h e =
       let q : getD row me 0 ≡ parentOf anc me r = kept-parent n me r row k in
       rw (e, q, ne-eqb (parentOf anc me r) none (λ x. h (q ∙ x)))
 
   pub orphan-gathers : (n me : ℕ) (r : Rank) (row : List ℕ) (c : ℕ) (s : Send) → Kept anc n me r row → getD row me 0 ≡ none → c ≡ children anc n (r .marks) me → s ≡ asks c
       → _≡_ {A = Said} (record { rank = record { phase = gathering; marks = r .marks; heard = 0; awaited = c; owed = r .owed; word = r .word; result = r .result }; send = s }) (orphaned anc n me r)
-  unfolding orphaned saying becoming hearing awaiting childrenOf
+  unfolding orphaned regathering renewing saying becoming hearing awaiting childrenOf
   orphan-gathers n me r row c s k h e f =
       let z : parentOf anc me r ≡ none = sym (kept-parent n me r row k) ∙ h in
       rw (eq-eqb (parentOf anc me r) none z, f, e, minus-none (children anc n (r .marks) me))

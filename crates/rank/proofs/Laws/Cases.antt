@@ -13,7 +13,7 @@ use Rattle.rank.specs.declared.Said.{Said}
 use Rattle.rank.specs.Words.{gathering, waiting, decided}
 use Rattle.rank.specs.Records.{becoming, combining, owing, parentOf, childrenOf, hearing}
 use Rattle.rank.specs.Sends.{silent, reports, tells, asks}
-use Rattle.rank.specs.Rules.{inPhase, saying, deciding, settled, raised, lowered, asked, orphaned, inheriting, bereaved}
+use Rattle.rank.specs.Rules.{inPhase, saying, deciding, settled, noting, raised, lowered, asked, renewing, regathering, orphaned, inheriting, bereaved}
 
 -- a rule by a test: what holds either way holds of it
 by-test : {A : Type 0} (P : A → Type 0) (b : Bool) (x y : A) → (b ≡ true → P x) → (b ≡ false → P y) → P (cond b x y)
@@ -38,11 +38,11 @@ module _ (anc : ℕ → ℕ) (n me : ℕ) where
 
   pub raised-by : (P : Said → Type 0) (q x : ℕ) (r : Rank)
       → (r .phase ≡ decided → P (saying r (tells (r .result) (only q))))
-      → ((r .phase ≡ decided → ⊥) → P (saying (combining x (hearing anc n me (add (r .heard) q) r)) silent))
+      → ((r .phase ≡ decided → ⊥) → P (saying (noting anc n me q x r) silent))
       → P (raised anc n me q x r)
   unfolding raised inPhase
   raised-by P q x r yes′ no′ =
-      by-test P (inPhase decided r) (saying r (tells (r .result) (only q))) (saying (combining x (hearing anc n me (add (r .heard) q) r)) silent)
+      by-test P (inPhase decided r) (saying r (tells (r .result) (only q))) (saying (noting anc n me q x r) silent)
       (λ t. yes′ (eqb-true (r .phase) decided t)) (λ t. no′ (eqb-false (r .phase) decided t))
 
   pub lowered-by : (P : Said → Type 0) (x : ℕ) (r : Rank)
@@ -74,12 +74,12 @@ module _ (anc : ℕ → ℕ) (n me : ℕ) where
       (λ s. other (eqb-false (r .phase) decided t) (λ e f. clash (w && p) (and-i w p (eq-eqb (r .phase) waiting e) (eq-eqb (parentOf anc me r) q f)) s)))
 
   pub orphaned-by : (P : Said → Type 0) (r : Rank)
-      → (parentOf anc me r ≡ none → P (saying (becoming gathering (hearing anc n me 0 r)) (asks (childrenOf anc n me r))))
-      → ((parentOf anc me r ≡ none → ⊥) → P (saying r (reports r (parentOf anc me r))))
+      → (parentOf anc me r ≡ none → P (regathering anc n me r))
+      → ((parentOf anc me r ≡ none → ⊥) → P (renewing anc n me r))
       → P (orphaned anc n me r)
   unfolding orphaned
   orphaned-by P r root child =
-      by-test P (eqb (parentOf anc me r) none) (saying (becoming gathering (hearing anc n me 0 r)) (asks (childrenOf anc n me r))) (saying r (reports r (parentOf anc me r)))
+      by-test P (eqb (parentOf anc me r) none) (regathering anc n me r) (renewing anc n me r)
       (λ t. root (eqb-true (parentOf anc me r) none t)) (λ t. child (eqb-false (parentOf anc me r) none t))
 
   pub bereaved-by : (P : Said → Type 0) (q : ℕ) (r v : Rank)

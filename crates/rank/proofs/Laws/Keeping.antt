@@ -9,7 +9,7 @@ use native.Mathlib.Omega.{arith}
 use borrow.Author.Tests.{eqb-true, ne-eqb}
 use Rattle.sets.specs.Sets.{none, has, only, add, union, meet, minus, below}
 use Rattle.sets.proofs.Laws.Bools.{passes-or-fails, clash, fails, lt-or-le, or-none, or-cases, and-l, and-not-l}
-use Rattle.sets.proofs.Laws.Members.{has-zero, has-only, add-union, has-add-more, has-union, has-meet, minus-l, has-below-ge, has-minus, add-again}
+use Rattle.sets.proofs.Laws.Members.{has-zero, has-only, add-union, has-add-more, has-union, has-meet, minus-l, minus-r, has-below-ge, has-minus, add-again}
 use Rattle.tree.specs.Tree.{parent, children, fresh, moved}
 use Rattle.tree.specs.Calls.{movedBelow}
 use Rattle.tree.proofs.Laws.Parents.{parent-lt, no-parent, no-parent-all, has-parent, parent-stays, marked-high}
@@ -19,7 +19,7 @@ use Rattle.rank.specs.declared.Said.{Said}
 use Rattle.rank.specs.Words.{outside, gathering, waiting, decided}
 use Rattle.rank.specs.Records.{becoming, combining, concluding, owing, parentOf, childrenOf, awaiting, freshRank, hearing, viewing}
 use Rattle.rank.specs.Sends.{silent, reports, tells, asks}
-use Rattle.rank.specs.Rules.{saying, deciding, settled, done, settling, entering, raised, takingUp, lowered, takingDown, asked, takingAsk, inheriting, bereaved, noticing}
+use Rattle.rank.specs.Rules.{saying, deciding, settled, done, settling, entering, noting, raised, takingUp, lowered, takingDown, asked, takingAsk, renewing, regathering, inheriting, bereaved, noticing}
 use Rattle.rank.specs.Order.{Kept, Within, Fair, Ordered, Posted, Sound, Steady}
 use Rattle.rank.proofs.Laws.Cases.{settled-by, raised-by, lowered-by, asked-by, orphaned-by, bereaved-by}
 
@@ -157,13 +157,13 @@ module _ (anc : ℕ → ℕ) (n me : ℕ) (small : n ≤ 64) (own : me < n) wher
   leaves-sound marks s m l = subst (λ (x : ℕ). Sound anc n me x (settling anc n me s m)) (l .1) (settling-sound s m (l .0) (subst (λ (x : ℕ). Posted n me x (s .send)) (sym (l .1)) (l .2)))
 
   pub up-sound : (q x : ℕ) (r : Rank) → Ordered anc n me r → q < n → (q ≡ me → ⊥) → Sound anc n me (r .marks) (takingUp anc n me q x r)
-  unfolding takingUp saying combining hearing parentOf
+  unfolding takingUp noting saying owing combining hearing parentOf
   up-sound q x r o l d =
       leaves-sound (r .marks) (raised anc n me q x r) 0
       (raised-by anc n me (Leaves (r .marks)) q x r
       (λ e. (o .fair, refl, tells-posted (r .marks) (r .result) (only q) (within-only n me q l d)))
       (λ e. (
-        record { marks-in = o .fair .marks-in; heard-in = within-add n me (r .heard) q (o .fair .heard-in) l d; owed-in = o .fair .owed-in; awaits = refl; waits = o .fair .waits; unless = o .fair .unless; known = o .fair .known },
+        record { marks-in = o .fair .marks-in; heard-in = within-add n me (r .heard) q (o .fair .heard-in) l d; owed-in = within-add n me (r .owed) q (o .fair .owed-in) l d; awaits = refl; waits = o .fair .waits; unless = o .fair .unless; known = o .fair .known },
         refl,
         silent-posted (r .marks),
       )))
@@ -214,7 +214,7 @@ module _ (anc : ℕ → ℕ) (n me : ℕ) (small : n ≤ 64) (own : me < n) wher
 
   -- what a death leaves, once q is marked
   bereaved-leaves : (q : ℕ) (r : Rank) → Ordered anc n me r → q < n → (q ≡ me → ⊥) → Leaves (add (r .marks) q) (bereaved anc n me q r (viewing anc n me (add (r .marks) q) r))
-  unfolding saying viewing becoming hearing parentOf inheriting childrenOf
+  unfolding regathering renewing saying viewing becoming hearing parentOf inheriting childrenOf
   bereaved-leaves q r o l d =
       bereaved-by anc n me (Leaves after) q r v
       (λ e f.
@@ -266,6 +266,25 @@ pub fresh-marks : (anc : ℕ → ℕ) (n me : ℕ) → freshRank anc n me .marks
 unfolding freshRank
 fresh-marks anc n me = refl
 
+pub fresh-outside : (anc : ℕ → ℕ) (n me : ℕ) → freshRank anc n me .phase ≡ outside
+unfolding freshRank
+fresh-outside anc n me = refl
+
+pub fresh-heard : (anc : ℕ → ℕ) (n me : ℕ) → freshRank anc n me .heard ≡ 0
+unfolding freshRank
+fresh-heard anc n me = refl
+
+-- whom a rank in order awaits is a child not heard, and one that waits has a parent
+pub awaited-child : (anc : ℕ → ℕ) (n me : ℕ) (r : Rank) → Ordered anc n me r → (c : ℕ) → has (r .awaited) c ≡ true → (has (children anc n (r .marks) me) c ≡ true) × (has (r .heard) c ≡ false)
+unfolding awaiting
+awaited-child anc n me r o c h =
+    let t : has (minus (children anc n (r .marks) me) (r .heard)) c ≡ true = subst (λ (w : ℕ). has w c ≡ true) (o .fair .awaits) h in
+    (minus-l (children anc n (r .marks) me) (r .heard) c t, minus-r (children anc n (r .marks) me) (r .heard) c t)
+
+pub waiting-led : (anc : ℕ → ℕ) (n me : ℕ) (r : Rank) → Ordered anc n me r → r .phase ≡ waiting → parent anc (r .marks) me ≡ none → ⊥
+unfolding parentOf
+waiting-led anc n me r o = o .fair .waits
+
 pub fresh-kept : (anc : ℕ → ℕ) (n me : ℕ) (row : List ℕ) → n ≤ 64 → me < n → row ≡ fresh anc n 0 → Kept anc n me (freshRank anc n me) row
 fresh-kept anc n me row s l e = record { size = s; own = l; table = e ∙ sym (ap (fresh anc n) (fresh-marks anc n me)) }
 
@@ -301,10 +320,10 @@ module _ (anc : ℕ → ℕ) (n me : ℕ) where
   settling-steady r s m h = steady-trans r (s .rank) (settled anc n me (s .rank) .rank) h (settled-steady (s .rank))
 
   pub up-steady : (q x : ℕ) (r : Rank) → Steady r (takingUp anc n me q x r .rank)
-  unfolding takingUp saying combining hearing
+  unfolding takingUp noting saying owing combining hearing
   up-steady q x r =
       settling-steady r (raised anc n me q x r) 0
-      (raised-by anc n me (Becomes r) q x r (λ e. same-phase r r refl refl) (λ e. same-phase r (combining x (hearing anc n me (add (r .heard) q) r)) refl refl))
+      (raised-by anc n me (Becomes r) q x r (λ e. same-phase r r refl refl) (λ e. same-phase r (noting anc n me q x r) refl refl))
 
   pub down-steady : (x : ℕ) (r : Rank) → Steady r (takingDown anc n me x r .rank)
   unfolding takingDown done saying deciding concluding
@@ -323,7 +342,7 @@ module _ (anc : ℕ → ℕ) (n me : ℕ) where
       v = viewing anc n me (union (r .marks) (below q)) r
 
   bereaved-steady : (q : ℕ) (r : Rank) → Becomes r (bereaved anc n me q r (viewing anc n me (add (r .marks) q) r))
-  unfolding saying viewing becoming hearing inheriting
+  unfolding regathering renewing saying viewing becoming hearing inheriting
   bereaved-steady q r =
       bereaved-by anc n me (Becomes r) q r v
       (λ e f.

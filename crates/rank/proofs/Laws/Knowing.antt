@@ -15,7 +15,7 @@ use Rattle.rank.specs.declared.Said.{Said}
 use Rattle.rank.specs.Words.{gathering}
 use Rattle.rank.specs.Records.{becoming, combining, concluding, owing, hearing, viewing}
 use Rattle.rank.specs.Sends.{silent}
-use Rattle.rank.specs.Rules.{saying, deciding, settled, done, settling, entering, raised, takingUp, takingDown, asked, takingAsk, inheriting, bereaved, noticing}
+use Rattle.rank.specs.Rules.{saying, deciding, settled, done, settling, entering, noting, raised, takingUp, takingDown, asked, takingAsk, renewing, regathering, inheriting, bereaved, noticing}
 use Rattle.rank.proofs.Laws.Cases.{settled-by, raised-by, lowered-by, asked-by, orphaned-by, bereaved-by}
 
 module _ (anc : ℕ → ℕ) (n me : ℕ) where
@@ -38,7 +38,7 @@ module _ (anc : ℕ → ℕ) (n me : ℕ) where
   enter-marks w r = settling-marks (saying (becoming gathering (combining w r)) silent) 0 (r .marks) refl
 
   pub up-marks : (q x : ℕ) (r : Rank) → takingUp anc n me q x r .rank .marks ≡ r .marks
-  unfolding takingUp saying combining hearing
+  unfolding takingUp noting saying owing combining hearing
   up-marks q x r = settling-marks (raised anc n me q x r) 0 (r .marks) (raised-by anc n me (Keeps (r .marks)) q x r (λ e. refl) (λ e. refl))
 
   pub down-marks : (x : ℕ) (r : Rank) → takingDown anc n me x r .rank .marks ≡ r .marks
@@ -60,7 +60,7 @@ module _ (anc : ℕ → ℕ) (n me : ℕ) where
       v = viewing anc n me after r
 
   pub bereaved-marks : (q : ℕ) (r v : Rank) → Keeps (v .marks) (bereaved anc n me q r v)
-  unfolding saying becoming hearing inheriting
+  unfolding regathering renewing saying becoming hearing inheriting
   bereaved-marks q r v = bereaved-by anc n me (Keeps (v .marks)) q r v (λ e f. orphaned-by anc n me (Keeps (v .marks)) v (λ z. refl) (λ z. refl)) (λ e z h. refl) (λ g h. refl)
 
   pub notice-marks : (q : ℕ) (r : Rank) → noticing anc n me q r .rank .marks ≡ add (r .marks) q

@@ -1,4 +1,4 @@
--- `Rank::up` meets its contract: a decided rank answers, any other hears q and awaits one fewer. Assumes nothing.
+-- `Rank::up` meets its contract: a decided rank answers, any other hears q, owes it, and awaits one fewer. Assumes nothing.
 use borrow.Author.Needs.{needs}
 use Rattle.rank.proofs.Laws.Acting.{up-decided, up-undecided}
 use Rattle.rank.proofs.Rank.up.Statement.{statement}
@@ -18,6 +18,9 @@ returns c = search up-decided
 
 with-requires : tie.Need-with-requires
 with-requires c κs = search needs
+
+with-requires-2 : tie.Need-with-requires-2
+with-requires-2 c κs = search needs
 
 only-requires-2 : tie.Need-only-requires-2
 only-requires-2 c κs = search needs
@@ -46,6 +49,7 @@ up-spec =
     settle-requires
     returns
     with-requires
+    with-requires-2
     only-requires-2
     minus-requires
     combine-requires
