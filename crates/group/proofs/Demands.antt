@@ -52,20 +52,21 @@ module _ (anc : ℕ → ℕ) (n : ℕ) (s : State) (run : Reaches anc n s) where
   inside : (i : ℕ) → i < n → i < s .group .n
   inside i l = let e : s .group .n ≡ n = reached-size anc n s run in omega arith
 
-  seat : (i : ℕ) → i < n → Seated anc n (s .group .dead) i (rankAt s i) (rowAt s i)
-  seat i l = subst (λ (m : ℕ). Seated anc m (s .group .dead) i (rankAt s i) (rowAt s i)) (reached-size anc n s run) (orderly-facts anc s (reached-orderly anc n s run) .seated i (inside i l))
+  -- Each rank and its row are in order.
+  pub reached-seat : (i : ℕ) → i < n → Seated anc n (s .group .dead) i (rankAt s i) (rowAt s i)
+  reached-seat i l = subst (λ (m : ℕ). Seated anc m (s .group .dead) i (rankAt s i) (rowAt s i)) (reached-size anc n s run) (orderly-facts anc s (reached-orderly anc n s run) .seated i (inside i l))
 
   -- Each rank's table is the one worked out afresh from the deaths that the rank knows.
   pub table-is-fresh : (i : ℕ) → i < n → rowAt s i ≡ fresh anc n (rankAt s i .marks)
-  table-is-fresh i l = seat i l .table
+  table-is-fresh i l = reached-seat i l .table
 
   -- Its awaited set is the fresh one: its children by that table that it has not heard.
   pub awaited-is-fresh : (i : ℕ) → i < n → rankAt s i .awaited ≡ awaiting anc n i (rankAt s i .marks) (rankAt s i .heard)
-  awaited-is-fresh i l = seat i l .ordered .fair .awaits
+  awaited-is-fresh i l = reached-seat i l .ordered .fair .awaits
 
   -- The deaths that it knows are deaths.
   pub known-deaths-are-deaths : (i : ℕ) → i < n → (k : ℕ) → has (rankAt s i .marks) k ≡ true → has (s .group .dead) k ≡ true
-  known-deaths-are-deaths i l = seat i l .marks-dead
+  known-deaths-are-deaths i l = reached-seat i l .marks-dead
 
   -- No link of its table ends at a rank that it knows to be dead.
   pub no-link-to-a-known-death : (i p k : ℕ) → i < n → p < n → has (rankAt s i .marks) k ≡ true → getD (rowAt s i) p 0 ≡ k → ⊥

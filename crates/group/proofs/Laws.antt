@@ -11,3 +11,5 @@ pub mod Lists
 pub mod Preserving
 pub mod Knowing
 pub mod Moving
+pub mod Flying
+pub mod Following

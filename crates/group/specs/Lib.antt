@@ -6,3 +6,4 @@ pub mod Order
 pub mod Starting
 pub mod Reaching
 pub mod Examples
+pub mod Moves

@@ -5,3 +5,5 @@ pub mod Keeping
 pub mod Ordering
 pub mod Letters
 pub mod Knowing
+pub mod Settling
+pub mod Turning

@@ -3,3 +3,4 @@ pub mod Records
 pub mod Sends
 pub mod Rules
 pub mod Order
+pub mod Turns

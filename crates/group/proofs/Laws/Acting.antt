@@ -44,7 +44,7 @@ module _ (anc : ℕ → ℕ) (n dead me : ℕ) (small : n ≤ 64) (own : me < n)
   -- ---- a delivery to a living rank that has not marked the sender
 
   -- an ASK's sender is below its receiver, since all below the sender are dead
-  asker-below : (m : Message) → Lawful n dead m → m .to ≡ me → m .kind ≡ ask → has dead me ≡ false → m .from < me
+  pub asker-below : (m : Message) → Lawful n dead m → m .to ≡ me → m .kind ≡ ask → has dead me ≡ false → m .from < me
   asker-below m l e k f = ⊎-elim (λ (h : m .from < me). h) (λ (h : me ≤ m .from). absurd (late h (eq-or-ne me (m .from)))) (lt-or-le (m .from) me)
     where
       late : me ≤ m .from → (me ≡ m .from) ⊎ (me ≡ m .from → ⊥) → ⊥

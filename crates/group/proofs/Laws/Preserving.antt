@@ -69,6 +69,15 @@ fresh-facts anc n low high = record {
 pub fresh-orderly : (anc : ℕ → ℕ) (n : ℕ) → 0 < n → n ≤ 64 → Orderly anc (freshState anc n)
 fresh-orderly anc n low high = facts-orderly anc (freshState anc n) (fresh-facts anc n low high)
 
+-- its ranks are fresh and nothing is in flight
+pub fresh-rank-at : (anc : ℕ → ℕ) (n i : ℕ) → n ≤ 64 → i < n → rankAt (freshState anc n) i ≡ freshRank anc n i
+unfolding freshState rankAt
+fresh-rank-at anc n i high l = getD-row (firstRank anc n) 64 i zeroRank (omega arith) ∙ first-rank-in anc n i l
+
+pub fresh-count : (anc : ℕ → ℕ) (n : ℕ) → freshState anc n .group .count ≡ 0
+unfolding freshState
+fresh-count anc n = refl
+
 -- ---- an accepted event
 
 last-one : (n dead a : ℕ) → a < n → has dead a ≡ false → minus (below n) (add dead a) ≡ 0 → minus (below n) dead ≡ only a
@@ -86,30 +95,30 @@ module _ (anc : ℕ → ℕ) (s : State) (f : Facts anc s) (kind a b : ℕ) (p :
   own : subjectOf s kind a < s .group .n
   own = subject-in anc s f kind a
 
-  ok : Taken anc s kind a b p
+  pub ok : Taken anc s kind a b p
   ok = plan-taken anc s kind a b p e z
 
   -- a kind that names a rank names this one, below n and living
-  named : namesRank kind ≡ true → namesPlace kind ≡ false → (subjectOf s kind a ≡ a) × (a < s .group .n) × (has (s .group .dead) a ≡ false)
+  pub named : namesRank kind ≡ true → namesPlace kind ≡ false → (subjectOf s kind a ≡ a) × (a < s .group .n) × (has (s .group .dead) a ≡ false)
   named r q =
       let x = clean-rank _ _ _ _ _ _ _ _ (ok .clean) r in
       (subject-named s kind a q (x .0), x .0, x .1)
 
-  ranks-kind : (kind ≡ 1) ⊎ ((kind ≡ 3) ⊎ (kind ≡ 4)) → (namesRank kind ≡ true) × (namesPlace kind ≡ false)
+  pub ranks-kind : (kind ≡ 1) ⊎ ((kind ≡ 3) ⊎ (kind ≡ 4)) → (namesRank kind ≡ true) × (namesPlace kind ≡ false)
   unfolding namesRank namesPlace
   ranks-kind (inl k) = (rw k, rw k)
   ranks-kind (inr (inl k)) = (rw k, rw k)
   ranks-kind (inr (inr k)) = (rw k, rw k)
 
-  places-kind : kind ≡ 2 → namesPlace kind ≡ true
+  pub places-kind : kind ≡ 2 → namesPlace kind ≡ true
   unfolding namesPlace
   places-kind k = rw k
 
   -- a place that is named holds a message
-  listed-there : namesPlace kind ≡ true → a < s .group .count
+  pub listed-there : namesPlace kind ≡ true → a < s .group .count
   listed-there q = clean-place _ _ _ _ _ _ _ _ (ok .clean) q
 
-  outcome : Outcome anc (s .group .n) (s .group .dead) (subjectOf s kind a) (p .acted)
+  pub outcome : Outcome anc (s .group .n) (s .group .dead) (subjectOf s kind a) (p .acted)
   outcome = subst (Outcome anc (s .group .n) (s .group .dead) (subjectOf s kind a)) (sym (ok .acted-is))
       (acting-outcome anc (s .group .n) (s .group .dead) (subjectOf s kind a) (f .size-high) own kind b (placeAt s a) (rankAt s (subjectOf s kind a)) (rowAt s (subjectOf s kind a)) (f .seated (subjectOf s kind a) own)
       (λ k. ok .clean .is-outside) delivery notice)
@@ -125,7 +134,7 @@ module _ (anc : ℕ → ℕ) (s : State) (f : Facts anc s) (kind a b : ℕ) (p :
 
   -- ---- the list
 
-  list-long : length (flying s) ≡ s .group .count
+  pub list-long : length (flying s) ≡ s .group .count
   unfolding flying
   list-long = length-take-le (s .group .count) (s .group .net) (let x = f .count-le in let y = f .shaped .net-long in omega arith)
 

@@ -251,6 +251,18 @@ listed-passes f (suc n) i d l = go (f n) refl (listed-passes f n i d) (lt-or-le 
         (omega arith, ap f same ∙ e)
     go false e ih (inr h) m = absurd (omega (arith, length-append (listed f n) []))
 
+-- and whoever passes and is below n is listed
+pub listed-has : (f : ℕ → Bool) (n d q : ℕ) → q < n → f q ≡ true → (i : ℕ) × (i < length (listed f n)) × (getD (listed f n) i d ≡ q)
+unfolding listed
+listed-has f zero d q l t = absurd (omega arith)
+listed-has f (suc n) d q l t = ⊎-elim (λ (e : q ≡ n). here e (f n) (ap f (sym e) ∙ t)) (λ (e : q ≡ n → ⊥). there (listed-has f n d q (omega arith) t)) (eq-or-ne q n)
+  where
+    here : q ≡ n → (b : Bool) → b ≡ true → (i : ℕ) × (i < length (listed f n ++ cond b (n ∷ []) [])) × (getD (listed f n ++ cond b (n ∷ []) []) i d ≡ q)
+    here e b h = rw h (length (listed f n) + 0, omega (arith, length-append (listed f n) (n ∷ [])), getD-append-add (listed f n) (n ∷ []) 0 d ∙ sym e)
+
+    there : (i : ℕ) × (i < length (listed f n)) × (getD (listed f n) i d ≡ q) → (i : ℕ) × (i < length (listed f n ++ cond (f n) (n ∷ []) [])) × (getD (listed f n ++ cond (f n) (n ∷ []) []) i d ≡ q)
+    there (i, h, g) = (i, omega (arith, length-append (listed f n) (cond (f n) (n ∷ []) [])), List·getD-append (listed f n) (cond (f n) (n ∷ []) []) d i h ∙ g)
+
 -- and later ones are larger
 pub listed-ascends : (f : ℕ → Bool) (n i j d : ℕ) → i < j → j < length (listed f n) → getD (listed f n) i d < getD (listed f n) j d
 unfolding listed

@@ -1,0 +1,260 @@
+-- An accepted event on a state in order is a move: one living rank takes its turn, with a message taken or with none; or no record changes,
+-- no message joins, and at most one with a dead end is gone. Over any ancestor sets. Assumes nothing.
+use mathlib.Core.Path.{_≡_, refl, sym, ap, subst, _∙_}
+use mathlib.Core.Bool.{Bool, true, false, cond, not, _&&_, _||_}
+use mathlib.Core.Logic.{_⊎_, inl, inr, ⊎-elim}
+use Prim.Native.Nat.{ℕ, _≤_, _<_}
+use native.Mathlib.Omega.{arith}
+use lib.Dec.{eqb}
+use lib.ListN.{length, getD}
+use lib.Seq.{getD-take, getD-set-same, getD-set-other}
+use borrow.Author.Tests.{eqb-true, eq-eqb, ne-eqb}
+use Rattle.sets.specs.Sets.{has, add, listed}
+use Rattle.sets.proofs.Laws.Bools.{passes-or-fails, clash, passes, eq-or-ne, and-i, or-cases, not-i, cond-false}
+use Rattle.sets.proofs.Laws.Members.{has-add-more}
+use Rattle.tree.specs.Relations.{Ancestry}
+use Rattle.rank.specs.declared.Rank.{Rank}
+use Rattle.rank.specs.declared.Acted.{Acted}
+use Rattle.rank.specs.Words.{outside, up, down, ask}
+use Rattle.rank.specs.Turns.{Says, Turn}
+use Rattle.rank.proofs.Laws.Settling.{Turning, silence}
+use Rattle.rank.proofs.Laws.Turning.{enter-turn, up-turn, down-turn, ask-turn, notice-turn}
+use Rattle.group.specs.declared.State.{State}
+use Rattle.group.specs.declared.Plan.{Plan}
+use Rattle.group.specs.declared.Stepped.{Stepped}
+use Rattle.group.specs.Net.{zeroMessage}
+use Rattle.group.specs.States.{zeroRank, rankAt, rowAt, placeAt, flying}
+use Rattle.group.specs.Refusing.{namesRank, namesPlace, notOutside, isLiving, bothLive}
+use Rattle.group.specs.Events.{idle, delivered, posted, applied, carried, subjectOf, planOf, stepped}
+use Rattle.group.specs.Order.{Lawful, Seated, Facts, Orderly, event}
+use Rattle.group.specs.Moves.{Flies, Move, turns, fades}
+use Rattle.group.proofs.Laws.Ordering.{orderly-facts}
+use Rattle.group.proofs.Laws.Planning.{deliver-dropped, deliver-up, deliver-down, deliver-ask, act-enters, act-delivers, act-notices, act-nothing}
+use Rattle.group.proofs.Laws.Stepping.{step-plan, clean-notice, subject-receives, subject-in}
+use Rattle.group.proofs.Laws.Acting.{asker-below}
+use Rattle.group.proofs.Laws.Preserving.{ok, named, ranks-kind, places-kind, listed-there, outcome, list-long}
+use Rattle.group.proofs.Laws.Knowing.{event-steps-on}
+use Rattle.group.proofs.Laws.Flying.{Among, Named, posted-was, posted-stays, posted-joins, applied-flies, flies-applied}
+
+-- the state after the plan of an event
+abbrev after : State → ℕ → ℕ → Plan → State
+after s kind a p = applied s a (subjectOf s kind a) p
+
+neither : (a b : Bool) → a || b ≡ false → (a ≡ false) × (b ≡ false)
+neither true b h = absurd (clash true refl h)
+neither false b h = (refl, h)
+
+module _ (anc : ℕ → ℕ) (s : State) (f : Facts anc s) (kind a b : ℕ) (p : Plan) (e : p ≡ planOf anc s kind a b) (z : p .answer ≡ 0) where
+  flying-long : length (flying s) ≡ s .group .count
+  flying-long = list-long anc s f kind a b p e z
+
+  -- the list of the messages in flight, place by place
+  flying-at : (i : ℕ) → i < s .group .count → getD (flying s) i zeroMessage ≡ placeAt s i
+  unfolding flying placeAt
+  flying-at i h = getD-take (s .group .count) (s .group .net) i zeroMessage h
+
+  flies-among : (k c x : ℕ) → Flies s k c x → Among (Named k c x) (flying s)
+  flies-among k c x m = record { place = m .place; inside = subst (λ (y : ℕ). m .place < y) (sym flying-long) (m .listed); so = subst (Named k c x) (sym (flying-at (m .place) (m .listed))) (m .kind-is, m .from-is, m .to-is) }
+
+  among-flies : (k c x : ℕ) → Among (Named k c x) (flying s) → Flies s k c x
+  among-flies k c x m =
+      let h : m .place < s .group .count = subst (λ (y : ℕ). m .place < y) flying-long (m .inside) in
+      let t : Named k c x (placeAt s (m .place)) = subst (Named k c x) (flying-at (m .place) h) (m .so) in
+      record { place = m .place; listed = h; kind-is = t .0; from-is = t .1; to-is = t .2 }
+
+  -- a message afterwards was in flight before, or its rank sent it
+  flies-was : (k c x : ℕ) → Flies (after s kind a p) k c x → Flies s k c x ⊎ ((c ≡ subjectOf s kind a) × Says (p .acted .first) (p .acted .second) k x)
+  flies-was k c x m = ⊎-elim (λ (n : Among (Named k c x) (flying s)). inl (among-flies k c x n)) (λ (n : (c ≡ subjectOf s kind a) × Says (p .acted .first) (p .acted .second) k x). inr n) (posted-was k c x (flying s) a (subjectOf s kind a) p (flies-applied s a (subjectOf s kind a) p k c x m))
+
+  -- one of before is in flight afterwards, or the event takes it out
+  flies-stays : (k c x : ℕ) → Flies s k c x → Flies (after s kind a p) k c x ⊎ ((namesPlace kind ≡ true) × Named k c x (placeAt s a))
+  flies-stays k c x m = ⊎-elim (λ (n : Among (Named k c x) (posted (flying s) a (subjectOf s kind a) p)). inl (applied-flies s a (subjectOf s kind a) p k c x n)) gone (posted-stays k c x (flying s) a (subjectOf s kind a) p (flies-among k c x m))
+    where
+      gone : (p .leaves ≡ true) × Named k c x (getD (flying s) a zeroMessage) → Flies (after s kind a p) k c x ⊎ ((namesPlace kind ≡ true) × Named k c x (placeAt s a))
+      gone (t, n) =
+          let q : namesPlace kind ≡ true = sym (ok anc s f kind a b p e z .leaves-is) ∙ t in
+          inr (q, subst (Named k c x) (flying-at a (listed-there anc s f kind a b p e z q)) n)
+
+  -- and all that its rank sends is
+  flies-joins : (k x : ℕ) → Says (p .acted .first) (p .acted .second) k x → Flies (after s kind a p) k (subjectOf s kind a) x
+  flies-joins k x t = applied-flies s a (subjectOf s kind a) p k (subjectOf s kind a) x (posted-joins (flying s) a (subjectOf s kind a) p k x (small t) t)
+    where
+      small : Says (p .acted .first) (p .acted .second) k x → x < 64
+      small (inl u) = omega (arith, f .size-high, outcome anc s f kind a b p e z .first-posted .to-in .inside x (u .1))
+      small (inr u) = omega (arith, f .size-high, outcome anc s f kind a b p e z .second-posted .to-in .inside x (u .1))
+
+  rank-after : rankAt (after s kind a p) (subjectOf s kind a) ≡ p .acted .rank
+  unfolding applied rankAt
+  rank-after = getD-set-same (s .group .ranks) (subjectOf s kind a) (p .acted .rank) zeroRank (let x = f .shaped .ranks-long in let y = f .size-high in omega (arith, subject-in anc s f kind a))
+
+  others-after : (j : ℕ) → (j ≡ subjectOf s kind a → ⊥) → rankAt (after s kind a p) j ≡ rankAt s j
+  unfolding applied rankAt
+  others-after j h = getD-set-other (s .group .ranks) (subjectOf s kind a) j (p .acted .rank) zeroRank h
+
+  dead-after : after s kind a p .group .dead ≡ cond (eqb kind 3) (add (s .group .dead) (subjectOf s kind a)) (s .group .dead)
+  unfolding applied
+  dead-after = ap (λ (t : Bool). cond t (add (s .group .dead) (subjectOf s kind a)) (s .group .dead)) (ok anc s f kind a b p e z .dies-is)
+
+  -- ---- a turn, and a fading
+
+  turns-after : (word q : ℕ) → (kind ≡ 3 → ⊥) → has (s .group .dead) (subjectOf s kind a) ≡ false
+      → Turn anc (s .group .n) (subjectOf s kind a) word q (rankAt s (subjectOf s kind a)) (p .acted .rank) (p .acted .first) (p .acted .second)
+      → (namesPlace kind ≡ true → Named word q (subjectOf s kind a) (placeAt s a)) → ((word ≡ 0 → ⊥) → (namesPlace kind ≡ true) × (has (rankAt s (subjectOf s kind a) .marks) q ≡ false))
+      → Move anc (s .group .n) s (after s kind a p)
+  turns-after word q h l t m k = turns (subjectOf s kind a) word q (p .acted .first) (p .acted .second) (record {
+    own = subject-in anc s f kind a;
+    lives = l;
+    dead-stays = dead-after ∙ cond-false (eqb kind 3) (add (s .group .dead) (subjectOf s kind a)) (s .group .dead) (ne-eqb kind 3 h);
+    others = others-after;
+    turn = subst (λ (r : Rank). Turn anc (s .group .n) (subjectOf s kind a) word q (rankAt s (subjectOf s kind a)) r (p .acted .first) (p .acted .second)) (sym rank-after) t;
+    took = λ d. taken (k d .0);
+    known = λ d. k d .1;
+    stays = λ j c x n. ⊎-elim (λ (y : Flies (after s kind a p) j c x). inl y) (λ (y : (namesPlace kind ≡ true) × Named j c x (placeAt s a)). inr (same j c x (m (y .0)) (y .1))) (flies-stays j c x n);
+    was = flies-was;
+    joins = flies-joins;
+  })
+    where
+      taken : namesPlace kind ≡ true → Flies s word q (subjectOf s kind a)
+      taken y = let n = m y in record { place = a; listed = listed-there anc s f kind a b p e z y; kind-is = n .0; from-is = n .1; to-is = n .2 }
+
+      same : (j c x : ℕ) → Named word q (subjectOf s kind a) (placeAt s a) → Named j c x (placeAt s a) → (j ≡ word) × (c ≡ q) × (x ≡ subjectOf s kind a)
+      same j c x n y = (sym (y .0) ∙ n .0, sym (y .1) ∙ n .1, sym (y .2) ∙ n .2)
+
+  fades-after : p .acted ≡ idle (rankAt s (subjectOf s kind a)) (rowAt s (subjectOf s kind a))
+      → (namesPlace kind ≡ true → (has (s .group .dead) (placeAt s a .from) ≡ true) ⊎ (has (s .group .dead) (placeAt s a .to) ≡ true))
+      → Move anc (s .group .n) s (after s kind a p)
+  unfolding idle
+  fades-after i d = fades (record {
+    dead-stays = λ k h. subst (λ (w : ℕ). has w k ≡ true) (sym dead-after) (more k h (eqb kind 3));
+    ranks-stay = λ j. ⊎-elim (λ (q : j ≡ subjectOf s kind a). subst (λ (y : ℕ). rankAt (after s kind a p) y ≡ rankAt s y) (sym q) (rank-after ∙ ap (λ (y : Acted). y .rank) i)) (others-after j) (eq-or-ne j (subjectOf s kind a));
+    was = λ k c x n. ⊎-elim (λ (y : Flies s k c x). y) (λ (y : (c ≡ subjectOf s kind a) × Says (p .acted .first) (p .acted .second) k x). absurd (silence k x (subst (λ (w : Acted). Says (w .first) (w .second) k x) i (y .1)))) (flies-was k c x n);
+    stays = λ k c x u v n. ⊎-elim (λ (y : Flies (after s kind a p) k c x). y) (λ (y : (namesPlace kind ≡ true) × Named k c x (placeAt s a)). absurd (gone k c x u v (y .1) (d (y .0)))) (flies-stays k c x n);
+  })
+    where
+      more : (k : ℕ) → has (s .group .dead) k ≡ true → (t : Bool) → has (cond t (add (s .group .dead) (subjectOf s kind a)) (s .group .dead)) k ≡ true
+      more k h true = has-add-more (s .group .dead) (subjectOf s kind a) k h
+      more k h false = h
+
+      gone : (k c x : ℕ) → has (s .group .dead) c ≡ false → has (s .group .dead) x ≡ false → Named k c x (placeAt s a) → (has (s .group .dead) (placeAt s a .from) ≡ true) ⊎ (has (s .group .dead) (placeAt s a .to) ≡ true) → ⊥
+      gone k c x u v n (inl t) = clash (has (s .group .dead) c) (subst (λ (y : ℕ). has (s .group .dead) y ≡ true) (n .1) t) u
+      gone k c x u v n (inr t) = clash (has (s .group .dead) x) (subst (λ (y : ℕ). has (s .group .dead) y ≡ true) (n .2) t) v
+
+  -- ---- the kinds of events
+
+  module _ (tree : Ancestry anc) where
+    seat : Seated anc (s .group .n) (s .group .dead) (subjectOf s kind a) (rankAt s (subjectOf s kind a)) (rowAt s (subjectOf s kind a))
+    seat = f .seated (subjectOf s kind a) (subject-in anc s f kind a)
+
+    -- the rank of an event that names one lives
+    named-lives : namesRank kind ≡ true → namesPlace kind ≡ false → has (s .group .dead) (subjectOf s kind a) ≡ false
+    named-lives r q = let x = named anc s f kind a b p e z r q in subst (λ (y : ℕ). has (s .group .dead) y ≡ false) (sym (x .0)) (x .2)
+
+    -- one that takes no message, kind 1 or 4, is a turn without one
+    silent-turn : namesRank kind ≡ true → namesPlace kind ≡ false → (kind ≡ 3 → ⊥) → Turning anc (s .group .n) (subjectOf s kind a) 0 0 (rankAt s (subjectOf s kind a)) (p .acted) → Move anc (s .group .n) s (after s kind a p)
+    silent-turn r q h t = turns-after 0 0 h (named-lives r q) t (λ y. absurd (clash (namesPlace kind) y q)) (λ d. absurd (d refl))
+
+    enters-moves : kind ≡ 1 → Move anc (s .group .n) s (after s kind a p)
+    unfolding notOutside
+    enters-moves k =
+        let t = ranks-kind anc s f kind a b p e z (inl k) in
+        let o : rankAt s (subjectOf s kind a) .phase ≡ outside = eqb-true (rankAt s (subjectOf s kind a) .phase) outside (passes (eqb (rankAt s (subjectOf s kind a) .phase) outside) (λ h. clash (eqb kind 1 && not (eqb (rankAt s (subjectOf s kind a) .phase) outside)) (and-i (eqb kind 1) (not (eqb (rankAt s (subjectOf s kind a) .phase) outside)) (eq-eqb kind 1 k) (not-i (eqb (rankAt s (subjectOf s kind a) .phase) outside) h)) (ok anc s f kind a b p e z .clean .is-outside))) in
+        silent-turn (t .0) (t .1) (λ x. omega arith)
+        (subst (Turning anc (s .group .n) (subjectOf s kind a) 0 0 (rankAt s (subjectOf s kind a))) (act-enters anc (s .group .n) (s .group .dead) kind b (placeAt s a) (subjectOf s kind a) (rankAt s (subjectOf s kind a)) (rowAt s (subjectOf s kind a)) _ k refl ∙ sym (ok anc s f kind a b p e z .acted-is))
+        (enter-turn anc tree (s .group .n) (subjectOf s kind a) (f .size-high) (subject-in anc s f kind a) b (rankAt s (subjectOf s kind a)) (seat .ordered) o))
+
+    notices-moves : kind ≡ 4 → Move anc (s .group .n) s (after s kind a p)
+    unfolding isLiving
+    notices-moves k =
+        let t = ranks-kind anc s f kind a b p e z (inr (inr k)) in
+        let d : has (s .group .dead) b ≡ true = passes (has (s .group .dead) b) (λ h. clash (eqb kind 4 && not (has (s .group .dead) b)) (and-i (eqb kind 4) (not (has (s .group .dead) b)) (eq-eqb kind 4 k) (not-i (has (s .group .dead) b) h)) (ok anc s f kind a b p e z .clean .told-dead)) in
+        let o : b ≡ subjectOf s kind a → ⊥ = λ q. clash (has (s .group .dead) (subjectOf s kind a)) (subst (λ (x : ℕ). has (s .group .dead) x ≡ true) q d) (named-lives (t .0) (t .1)) in
+        silent-turn (t .0) (t .1) (λ x. omega arith)
+        (subst (Turning anc (s .group .n) (subjectOf s kind a) 0 0 (rankAt s (subjectOf s kind a))) (act-notices anc (s .group .n) (s .group .dead) kind b (placeAt s a) (subjectOf s kind a) (rankAt s (subjectOf s kind a)) (rowAt s (subjectOf s kind a)) _ (λ x. omega arith) (λ x. omega arith) k refl ∙ sym (ok anc s f kind a b p e z .acted-is))
+        (notice-turn anc tree (s .group .n) (subjectOf s kind a) (f .size-high) (subject-in anc s f kind a) b (rankAt s (subjectOf s kind a)) (seat .ordered) (clean-notice _ _ _ _ _ _ _ _ (ok anc s f kind a b p e z .clean) k) o))
+
+    -- a crash changes no record, and a message that is lost has a dead end
+    rest-fades : (kind ≡ 1 → ⊥) → (kind ≡ 2 → ⊥) → (kind ≡ 4 → ⊥) → Move anc (s .group .n) s (after s kind a p)
+    unfolding namesPlace bothLive
+    rest-fades h i j =
+        fades-after (ok anc s f kind a b p e z .acted-is ∙ sym (act-nothing anc (s .group .n) (s .group .dead) kind b (placeAt s a) (subjectOf s kind a) (rankAt s (subjectOf s kind a)) (rowAt s (subjectOf s kind a)) _ h i j refl))
+        (λ t. ⊎-elim (λ (x : eqb kind 2 ≡ true). absurd (i (eqb-true kind 2 x))) (λ (x : eqb kind 5 ≡ true). dead-end x (passes-or-fails (has (s .group .dead) (placeAt s a .from))) (passes-or-fails (has (s .group .dead) (placeAt s a .to)))) (or-cases (eqb kind 2) (eqb kind 5) t))
+      where
+        dead-end : eqb kind 5 ≡ true → (has (s .group .dead) (placeAt s a .from) ≡ true) ⊎ (has (s .group .dead) (placeAt s a .from) ≡ false) → (has (s .group .dead) (placeAt s a .to) ≡ true) ⊎ (has (s .group .dead) (placeAt s a .to) ≡ false)
+            → (has (s .group .dead) (placeAt s a .from) ≡ true) ⊎ (has (s .group .dead) (placeAt s a .to) ≡ true)
+        dead-end x (inl u) v = inl u
+        dead-end x (inr u) (inl v) = inr v
+        dead-end x (inr u) (inr v) =
+            absurd (clash (eqb kind 5 && not (has (s .group .dead) (placeAt s a .from)) && not (has (s .group .dead) (placeAt s a .to)))
+            (and-i (eqb kind 5 && not (has (s .group .dead) (placeAt s a .from))) (not (has (s .group .dead) (placeAt s a .to))) (and-i (eqb kind 5) (not (has (s .group .dead) (placeAt s a .from))) x (not-i (has (s .group .dead) (placeAt s a .from)) u)) (not-i (has (s .group .dead) (placeAt s a .to)) v))
+            (ok anc s f kind a b p e z .clean .end-dead))
+
+    -- ---- a delivery
+
+    module _ (k : kind ≡ 2) where
+      message : Lawful (s .group .n) (s .group .dead) (placeAt s a)
+      message = f .lawful a (listed-there anc s f kind a b p e z (places-kind anc s f kind a b p e z k))
+
+      receiver : placeAt s a .to ≡ subjectOf s kind a
+      receiver = sym (subject-receives s kind a (places-kind anc s f kind a b p e z k))
+
+      acted-delivered : p .acted ≡ delivered anc (s .group .n) (s .group .dead) (subjectOf s kind a) (placeAt s a) (rankAt s (subjectOf s kind a)) (rowAt s (subjectOf s kind a))
+      acted-delivered = ok anc s f kind a b p e z .acted-is ∙ sym (act-delivers anc (s .group .n) (s .group .dead) kind b (placeAt s a) (subjectOf s kind a) (rankAt s (subjectOf s kind a)) (rowAt s (subjectOf s kind a)) _ (λ x. omega arith) k refl)
+
+      -- to a dead rank, or from a sender that the receiver has marked, who is dead
+      dropped-fades : has (s .group .dead) (subjectOf s kind a) || has (rankAt s (subjectOf s kind a) .marks) (placeAt s a .from) ≡ true → Move anc (s .group .n) s (after s kind a p)
+      dropped-fades t =
+          fades-after (acted-delivered ∙ sym (deliver-dropped anc (s .group .n) (s .group .dead) (subjectOf s kind a) (placeAt s a) (rankAt s (subjectOf s kind a)) (rowAt s (subjectOf s kind a)) _ _ _ refl refl t refl))
+          (λ x. ⊎-elim (λ (u : has (s .group .dead) (subjectOf s kind a) ≡ true). inr (subst (λ (y : ℕ). has (s .group .dead) y ≡ true) (sym receiver) u)) (λ (u : has (rankAt s (subjectOf s kind a) .marks) (placeAt s a .from) ≡ true). inl (seat .marks-dead (placeAt s a .from) u)) (or-cases (has (s .group .dead) (subjectOf s kind a)) (has (rankAt s (subjectOf s kind a) .marks) (placeAt s a .from)) t))
+
+      module _ (t : has (s .group .dead) (subjectOf s kind a) || has (rankAt s (subjectOf s kind a) .marks) (placeAt s a .from) ≡ false) where
+        living : has (s .group .dead) (subjectOf s kind a) ≡ false
+        living = neither (has (s .group .dead) (subjectOf s kind a)) (has (rankAt s (subjectOf s kind a) .marks) (placeAt s a .from)) t .0
+
+        unmarked : has (rankAt s (subjectOf s kind a) .marks) (placeAt s a .from) ≡ false
+        unmarked = neither (has (s .group .dead) (subjectOf s kind a)) (has (rankAt s (subjectOf s kind a) .marks) (placeAt s a .from)) t .1
+
+        taken-turn : (word : ℕ) → placeAt s a .kind ≡ word → Turning anc (s .group .n) (subjectOf s kind a) word (placeAt s a .from) (rankAt s (subjectOf s kind a)) (p .acted) → Move anc (s .group .n) s (after s kind a p)
+        taken-turn word w u = turns-after word (placeAt s a .from) (λ x. omega arith) living u (λ y. (w, refl, receiver)) (λ d. (places-kind anc s f kind a b p e z k, unmarked))
+
+        up-moves : placeAt s a .kind ≡ up → Move anc (s .group .n) s (after s kind a p)
+        up-moves w = taken-turn up w
+            (subst (Turning anc (s .group .n) (subjectOf s kind a) up (placeAt s a .from) (rankAt s (subjectOf s kind a))) (deliver-up anc (s .group .n) (s .group .dead) (subjectOf s kind a) (placeAt s a) (rankAt s (subjectOf s kind a)) (rowAt s (subjectOf s kind a)) _ _ _ refl refl t w refl ∙ sym acted-delivered)
+            (up-turn anc tree (s .group .n) (subjectOf s kind a) (f .size-high) (subject-in anc s f kind a) (placeAt s a .from) (placeAt s a .word) (rankAt s (subjectOf s kind a)) (seat .ordered)))
+
+        down-moves : placeAt s a .kind ≡ down → Move anc (s .group .n) s (after s kind a p)
+        down-moves w = taken-turn down w
+            (subst (Turning anc (s .group .n) (subjectOf s kind a) down (placeAt s a .from) (rankAt s (subjectOf s kind a))) (deliver-down anc (s .group .n) (s .group .dead) (subjectOf s kind a) (placeAt s a) (rankAt s (subjectOf s kind a)) (rowAt s (subjectOf s kind a)) _ _ _ refl refl t (λ x. omega arith) w refl ∙ sym acted-delivered)
+            (down-turn anc tree (s .group .n) (subjectOf s kind a) (f .size-high) (subject-in anc s f kind a) (placeAt s a .from) (placeAt s a .word) (rankAt s (subjectOf s kind a))))
+
+        ask-moves : placeAt s a .kind ≡ ask → Move anc (s .group .n) s (after s kind a p)
+        ask-moves w = taken-turn ask w
+            (subst (Turning anc (s .group .n) (subjectOf s kind a) ask (placeAt s a .from) (rankAt s (subjectOf s kind a))) (deliver-ask anc (s .group .n) (s .group .dead) (subjectOf s kind a) (placeAt s a) (rankAt s (subjectOf s kind a)) (rowAt s (subjectOf s kind a)) _ _ _ refl refl t (λ x. omega arith) (λ x. omega arith) refl ∙ sym acted-delivered)
+            (ask-turn anc tree (s .group .n) (subjectOf s kind a) (f .size-high) (subject-in anc s f kind a) (placeAt s a .from) (rankAt s (subjectOf s kind a)) (seat .ordered)
+            (asker-below anc (s .group .n) (s .group .dead) (subjectOf s kind a) (f .size-high) (subject-in anc s f kind a) (placeAt s a) message receiver w living) unmarked))
+
+        taken-moves : Move anc (s .group .n) s (after s kind a p)
+        taken-moves = ⊎-elim up-moves (λ (x : placeAt s a .kind ≡ up → ⊥). ⊎-elim down-moves (λ (y : placeAt s a .kind ≡ down → ⊥). ask-moves (third (placeAt s a .kind) (message .kind-low) (message .kind-high) x y)) (eq-or-ne (placeAt s a .kind) down)) (eq-or-ne (placeAt s a .kind) up)
+          where
+            third : (w : ℕ) → up ≤ w → w ≤ ask → (w ≡ up → ⊥) → (w ≡ down → ⊥) → w ≡ ask
+            third w l h x y = omega arith
+
+      delivers-moves : Move anc (s .group .n) s (after s kind a p)
+      delivers-moves = ⊎-elim dropped-fades taken-moves (passes-or-fails (has (s .group .dead) (subjectOf s kind a) || has (rankAt s (subjectOf s kind a) .marks) (placeAt s a .from)))
+
+    plan-moves : Move anc (s .group .n) s (after s kind a p)
+    plan-moves = ⊎-elim enters-moves (λ (x : kind ≡ 1 → ⊥). ⊎-elim delivers-moves (λ (y : kind ≡ 2 → ⊥). ⊎-elim notices-moves (rest-fades x y) (eq-or-ne kind 4)) (eq-or-ne kind 2)) (eq-or-ne kind 1)
+
+-- ---- the theorem
+
+-- an accepted step carries its plan out
+step-applied : (anc : ℕ → ℕ) (s : State) (kind a b : ℕ) → stepped anc s kind a b .answer ≡ 0 → stepped anc s kind a b .state ≡ after s kind a (planOf anc s kind a b)
+unfolding stepped carried
+step-applied anc s kind a b z = rw (eq-eqb (planOf anc s kind a b .answer) 0 (step-plan anc s kind a b z))
+
+-- An accepted event on a state in order is a move.
+pub event-moves : (anc : ℕ → ℕ) → Ancestry anc → (s : State) (kind a b : ℕ) → Orderly anc s → event anc s kind a b .answer ≡ 0 → Move anc (s .group .n) s (event anc s kind a b .state)
+event-moves anc tree s kind a b o z =
+    let steps : event anc s kind a b ≡ stepped anc s kind a b = event-steps-on anc s kind a b o in
+    let y : stepped anc s kind a b .answer ≡ 0 = sym (ap (λ (x : Stepped). x .answer) steps) ∙ z in
+    subst (Move anc (s .group .n) s) (sym (ap (λ (x : Stepped). x .state) steps ∙ step-applied anc s kind a b y))
+    (plan-moves anc s (orderly-facts anc s o) kind a b (planOf anc s kind a b) refl (step-plan anc s kind a b y) tree)
