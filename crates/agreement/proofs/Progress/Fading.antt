@@ -1,0 +1,66 @@
+-- A death and the loss of a message with a dead end keep the invariant: records stay, fewer ranks live, and between living ranks every
+-- message stays. Assumes nothing.
+use mathlib.Core.Path.{_≡_, sym, subst}
+use mathlib.Core.Bool.{true, false}
+use mathlib.Core.Logic.{_⊎_, inl, inr, ⊎-elim}
+use Prim.Native.Nat.{ℕ}
+use Rattle.sets.specs.Sets.{has}
+use Rattle.sets.proofs.Laws.Bools.{clash, fails}
+use Rattle.tree.specs.Tree.{parent, children}
+use Rattle.rank.specs.declared.Rank.{Rank}
+use Rattle.rank.specs.Words.{gathering, waiting, decided, up, down, ask}
+use Rattle.rank.specs.Turns.{Root, Leads}
+use Rattle.group.specs.declared.State.{State}
+use Rattle.group.specs.States.{rankAt}
+use Rattle.group.specs.Moves.{Flies, Fades}
+use Rattle.agreement.specs.Progress.{Lives}
+use Rattle.agreement.proofs.Progress.Standing.{Early, New, NoneNew, Calm, Owes, Held, InDebt, Polled, Standing}
+
+module _ (anc : ℕ → ℕ) (n : ℕ) (s s′ : State) (t : Fades s s′) (inv : Standing anc n s) where
+  lived : (x : ℕ) → Lives n s′ x → Lives n s x
+  lived x l = (l .0, fails (has (s .group .dead) x) (λ h. clash (has (s′ .group .dead) x) (t .dead-stays x h) (l .1)))
+
+  was-new : (x : ℕ) → New anc n s′ x → New anc n s x
+  was-new x h = (lived x (h .0), subst (Early anc n x) (t .ranks-stay x) (h .1))
+
+  still-none : (c : ℕ) → NoneNew anc n s c → NoneNew anc n s′ c
+  still-none c h x u w = h x u (was-new x w)
+
+  still-calm : Calm anc n s → Calm anc n s′
+  still-calm c = (λ b l e. c .0 b l (subst (λ (r : Rank). r .phase ≡ decided) (t .ranks-stay b) e), λ b x h. c .1 b x (t .was down b x h))
+
+  kept : (k b x : ℕ) → Lives n s′ b → Lives n s′ x → Flies s k b x → Flies s′ k b x
+  kept k b x lb lx h = t .stays k b x (lived b lb .1) (lived x lx .1) h
+
+  owes : (x a : ℕ) → Lives n s′ x → Lives n s′ a → Owes anc n (Flies s ask a x) a (rankAt s′ a) x → Owes anc n (Flies s′ ask a x) a (rankAt s′ a) x
+  owes x a lx la o = (
+    o .0,
+    o .1,
+    ⊎-elim (λ (y : has (rankAt s′ a .heard) x ≡ true). inl y)
+        (λ (y : (rankAt s′ a .phase ≡ gathering) × Root anc a (rankAt s′ a) × ((has (children anc n (rankAt s′ a .marks) a) x ≡ false) ⊎ Flies s ask a x)).
+        inr (y .0, y .1, ⊎-elim (λ (v : has (children anc n (rankAt s′ a .marks) a) x ≡ false). inl v) (λ (v : Flies s ask a x). inr (kept ask a x la lx v)) (y .2))) (o .2),
+  )
+
+  still-held : (x a : ℕ) → Lives n s′ x → Lives n s′ a → Held anc n s x a → Held anc n s′ x a
+  still-held x a lx la (inl h) = inl (kept up x a lx la h)
+  still-held x a lx la (inr (inl h)) = inr (inl (kept down a x la lx h))
+  still-held x a lx la (inr (inr h)) = inr (inr (owes x a lx la (subst (λ (r : Rank). Owes anc n (Flies s ask a x) a r x) (sym (t .ranks-stay a)) h)))
+
+  still-polled : (a c : ℕ) → Lives n s′ a → Lives n s′ c → Polled anc n s a c → Polled anc n s′ a c
+  still-polled a c la lc (inl h) = inl (still-calm h)
+  still-polled a c la lc (inr (inl h)) = inr (inl (kept ask a c la lc h))
+  still-polled a c la lc (inr (inr (inl h))) = inr (inr (inl (subst (λ (r : Rank). InDebt anc n r a) (sym (t .ranks-stay c)) h)))
+  still-polled a c la lc (inr (inr (inr h))) = inr (inr (inr (kept down c a lc la h)))
+
+  pub fades-keep : Standing anc n s′
+  fades-keep = record {
+    heard-old = λ p q l h. still-none q (inv .heard-old p q l (subst (λ (r : Rank). has (r .heard) q ≡ true) (t .ranks-stay p) h));
+    report-old = λ q b h. still-none q (inv .report-old q b (t .was up q b h));
+    waiting-old = λ p l e. still-none p (inv .waiting-old p l (subst (λ (r : Rank). r .phase ≡ waiting) (t .ranks-stay p) e));
+    new-calm = λ x w. still-calm (inv .new-calm x (was-new x w));
+    held = λ x a lx w e la.
+        still-held x a lx la (inv .held x a (lived x lx) (subst (λ (r : Rank). r .phase ≡ waiting) (t .ranks-stay x) w) (subst (λ (r : Rank). parent anc (r .marks) x ≡ a) (t .ranks-stay x) e) (lived a la));
+    polled = λ a c la e z lc k.
+        still-polled a c la lc
+        (inv .polled a c (lived a la) (subst (λ (r : Rank). r .phase ≡ gathering) (t .ranks-stay a) e) (subst (Root anc a) (t .ranks-stay a) z) (lived c lc) (subst (λ (r : Rank). Leads anc n a r c) (t .ranks-stay a) k));
+  }

@@ -1,0 +1,166 @@
+-- Each test of the list passes, by computation; and what follows: the claim's premises are met in a state with a death, and without any one of
+-- them the claim is false. Assumes nothing.
+use mathlib.Core.Path.{_≡_, refl, ap, subst, _∙_}
+use mathlib.Core.Bool.{Bool, true, false, not, _||_}
+use mathlib.Core.List.{List}
+use mathlib.Core.Logic.{_⊎_, inl, inr, ⊎-elim}
+use Prim.Native.Nat.{ℕ, _<_}
+use lib.Dec.{eqb}
+use borrow.Author.Tests.{eqb-true, eqb-false, eq-eqb, not-true}
+use Rattle.sets.proofs.Laws.Bools.{clash, passes-or-fails, or-l, or-r, or-cases, all-head, all-tail}
+use Rattle.sets.proofs.Laws.Members.{has-zero, minus-not}
+use Rattle.sets.proofs.Laws.Searches.{every-at, every-i}
+use Rattle.sets.specs.Sets.{has, only, union, meet, minus, add, below, setOf, count, largest, smallest, listed, every, all}
+use Rattle.tree.specs.Calls.{movedBelow, wrongSize, same}
+use Rattle.tree.specs.Tree.{halvings, flat, parent, children, row, entry, fresh, moves, moved}
+use Rattle.rank.specs.Order.{proper, clauses, inOrder}
+use Rattle.rank.specs.Records.{becoming, combining, concluding, owing, parentOf, childrenOf, awaiting, freshRank, hearing, viewing}
+use Rattle.rank.specs.Rules.{inPhase, saying, deciding, settled, done, settling, entering, noting, raised, takingUp, lowered, takingDown, asked, takingAsk, renewing, regathering, orphaned, inheriting, bereaved, noticing}
+use Rattle.rank.specs.Sends.{silent, reports, tells, asks, letter, letters, sent}
+use Rattle.rank.specs.Words.{combine}
+use Rattle.group.specs.Events.{size, idle, subject, refusing, accepting, afterwards, fitting, delivered, acting, planned, posted, placed, joining, applied, refused, carried, subjectOf, planOf, stepped}
+use Rattle.group.specs.Net.{padded, without}
+use Rattle.group.specs.Order.{isWithin, memberOrder, zeroRecord, strangerOrder, seatOrder, rankOrder, messageOrder, zeroPlace, netOrder, placeOrder, orderly, event}
+use Rattle.group.specs.Refusing.{namesRank, namesPlace, wrongKind, wrongRank, noMessage, isDead, notOutside, isLiving, isLast, bothLive, lateRefusal, refusal}
+use Rattle.group.specs.Starting.{firstRank, firstRow, freshState, started}
+use Rattle.group.specs.States.{rankAt, rowAt, placeAt, flying}
+use Rattle.schedule.specs.Files.{byteAt, shortAt, numberAt, eventAt, eventsIn, wrongMark, wrongVersion, broken, header, numberOf}
+use Rattle.schedule.specs.Runs.{written, stepAt, played, refusedRun, acceptedRun, opened, run}
+use Rattle.schedule.specs.Witnesses.{then, file}
+use Rattle.rank.specs.Words.{outside, decided}
+use Rattle.group.specs.declared.State.{State}
+use Rattle.group.specs.Reaching.{Reaches}
+use Rattle.schedule.proofs.Reaching.{run-reaches}
+use Rattle.agreement.specs.Progress.{Lives, Quiet, AllEntered, AllDeathsKnown, AllDecided}
+use Rattle.agreement.specs.Witnesses.{mourned, absent, busy, untold, slice, runs, ended, isQuiet, allEntered, allDeathsKnown, allDecided, witnesses}
+
+pub the-tests-pass : all witnesses ≡ true
+unfolding has only union meet minus add below setOf count largest smallest listed every all movedBelow wrongSize same halvings flat parent children row entry fresh moves moved proper clauses inOrder becoming combining concluding owing parentOf childrenOf awaiting freshRank hearing viewing inPhase saying deciding settled done settling entering noting raised takingUp lowered takingDown asked takingAsk renewing regathering orphaned inheriting bereaved noticing silent reports tells asks letter letters sent combine size idle subject refusing accepting afterwards fitting delivered acting planned posted placed joining applied refused carried subjectOf planOf stepped padded without isWithin memberOrder zeroRecord strangerOrder seatOrder rankOrder messageOrder zeroPlace netOrder placeOrder orderly event namesRank namesPlace wrongKind wrongRank noMessage isDead notOutside isLiving isLast bothLive lateRefusal refusal firstRank firstRow freshState started rankAt rowAt placeAt flying byteAt shortAt numberAt eventAt eventsIn wrongMark wrongVersion broken header numberOf written stepAt played refusedRun acceptedRun opened run then file mourned absent busy untold slice runs ended isQuiet allEntered allDeathsKnown allDecided witnesses
+the-tests-pass = refl
+
+-- ---- from the tests to the words
+
+reached-end : (f : List ℕ) → runs f ≡ true → Reaches flat (byteAt f 5) (ended f)
+unfolding runs ended
+reached-end f t = run-reaches f slice (eqb-true (run flat f slice .answer) 0 t)
+
+quiet-end : (s : State) → isQuiet s ≡ true → Quiet s
+unfolding isQuiet
+quiet-end s t = eqb-true (s .group .count) 0 t
+
+-- a test of every living rank
+of-living : (n : ℕ) (s : State) (f : ℕ → Bool) → every (λ i. has (s .group .dead) i || f i) n ≡ true → (i : ℕ) → Lives n s i → f i ≡ true
+of-living n s f t i l =
+    ⊎-elim (λ (h : has (s .group .dead) i ≡ true). absurd (clash (has (s .group .dead) i) h (l .1))) (λ (h : f i ≡ true). h)
+    (or-cases (has (s .group .dead) i) (f i) (every-at (λ k. has (s .group .dead) k || f k) n i t (l .0)))
+
+entered-end : (n : ℕ) (s : State) → allEntered n s ≡ true → AllEntered n s
+unfolding allEntered
+entered-end n s t i l = eqb-false (rankAt s i .phase) outside (not-true (eqb (rankAt s i .phase) outside) (of-living n s (λ k. not (eqb (rankAt s k .phase) outside)) t i l))
+
+known-end : (n : ℕ) (s : State) → allDeathsKnown n s ≡ true → AllDeathsKnown n s
+unfolding allDeathsKnown
+known-end n s t i k l h =
+    minus-not (s .group .dead) (rankAt s i .marks) k
+    (ap (λ (w : ℕ). has w k) (eqb-true (minus (s .group .dead) (rankAt s i .marks)) 0 (of-living n s (λ j. eqb (minus (s .group .dead) (rankAt s j .marks)) 0) t i l)) ∙ has-zero k) h
+
+undecided-end : (n : ℕ) (s : State) → not (allDecided n s) ≡ true → AllDecided n s → ⊥
+unfolding allDecided
+undecided-end n s t d =
+    clash (every (λ i. has (s .group .dead) i || eqb (rankAt s i .phase) decided) n)
+    (every-i (λ i. has (s .group .dead) i || eqb (rankAt s i .phase) decided) n (λ i l. go i l (passes-or-fails (has (s .group .dead) i))))
+    (not-true (every (λ i. has (s .group .dead) i || eqb (rankAt s i .phase) decided) n) t)
+  where
+    go : (i : ℕ) → i < n → (has (s .group .dead) i ≡ true) ⊎ (has (s .group .dead) i ≡ false) → has (s .group .dead) i || eqb (rankAt s i .phase) decided ≡ true
+    go i l (inl h) = or-l (has (s .group .dead) i) (eqb (rankAt s i .phase) decided) h
+    go i l (inr h) = or-r (has (s .group .dead) i) (eqb (rankAt s i .phase) decided) (eq-eqb (rankAt s i .phase) decided (d i (l, h)))
+
+-- ---- each test by itself
+
+abbrev Tests : Type 0
+Tests =
+    (runs mourned ≡ true)
+    × (isQuiet (ended mourned) ≡ true)
+    × (allEntered 3 (ended mourned) ≡ true)
+    × (allDeathsKnown 3 (ended mourned) ≡ true)
+    × (has (ended mourned .group .dead) 1 ≡ true)
+    × (runs absent ≡ true)
+    × (isQuiet (ended absent) ≡ true)
+    × (allDeathsKnown 2 (ended absent) ≡ true)
+    × (not (allDecided 2 (ended absent)) ≡ true)
+    × (runs busy ≡ true)
+    × (allEntered 2 (ended busy) ≡ true)
+    × (allDeathsKnown 2 (ended busy) ≡ true)
+    × (not (allDecided 2 (ended busy)) ≡ true)
+    × (runs untold ≡ true)
+    × (isQuiet (ended untold) ≡ true)
+    × (allEntered 2 (ended untold) ≡ true)
+    × (not (allDecided 2 (ended untold)) ≡ true)
+
+tests : Tests
+unfolding witnesses
+tests =
+    let t0 : all witnesses ≡ true = the-tests-pass in
+    let t1 = all-tail _ _ t0 in
+    let t2 = all-tail _ _ t1 in
+    let t3 = all-tail _ _ t2 in
+    let t4 = all-tail _ _ t3 in
+    let t5 = all-tail _ _ t4 in
+    let t6 = all-tail _ _ t5 in
+    let t7 = all-tail _ _ t6 in
+    let t8 = all-tail _ _ t7 in
+    let t9 = all-tail _ _ t8 in
+    let t10 = all-tail _ _ t9 in
+    let t11 = all-tail _ _ t10 in
+    let t12 = all-tail _ _ t11 in
+    let t13 = all-tail _ _ t12 in
+    let t14 = all-tail _ _ t13 in
+    let t15 = all-tail _ _ t14 in
+    let t16 = all-tail _ _ t15 in
+    (all-head _ _ t0, all-head _ _ t1, all-head _ _ t2, all-head _ _ t3, all-head _ _ t4, all-head _ _ t5, all-head _ _ t6, all-head _ _ t7, all-head _ _ t8, all-head _ _ t9, all-head _ _ t10, all-head _ _ t11, all-head _ _ t12, all-head _ _ t13, all-head _ _ t14, all-head _ _ t15, all-head _ _ t16)
+
+size-mourned : byteAt mourned 5 ≡ 3
+unfolding byteAt mourned then file
+size-mourned = refl
+
+size-absent : byteAt absent 5 ≡ 2
+unfolding byteAt absent file
+size-absent = refl
+
+size-busy : byteAt busy 5 ≡ 2
+unfolding byteAt busy then file
+size-busy = refl
+
+size-untold : byteAt untold 5 ≡ 2
+unfolding byteAt untold then file
+size-untold = refl
+
+-- ---- the claim is not empty, and each premise is needed
+
+-- A reached state that meets every premise, and has a death.
+pub the-premises-are-met : Reaches flat 3 (ended mourned) × Quiet (ended mourned) × AllEntered 3 (ended mourned) × AllDeathsKnown 3 (ended mourned) × (has (ended mourned .group .dead) 1 ≡ true)
+the-premises-are-met = (
+  subst (λ (n : ℕ). Reaches flat n (ended mourned)) size-mourned (reached-end mourned (tests .0)),
+  quiet-end (ended mourned) (tests .1),
+  entered-end 3 (ended mourned) (tests .2),
+  known-end 3 (ended mourned) (tests .3),
+  tests .4,
+)
+
+-- Without "has entered" the claim is false: two ranks that never enter.
+pub entry-is-needed : ((n : ℕ) (s : State) → Reaches flat n s → Quiet s → AllDeathsKnown n s → AllDecided n s) → ⊥
+entry-is-needed h =
+    undecided-end 2 (ended absent) (tests .8)
+    (h 2 (ended absent) (subst (λ (n : ℕ). Reaches flat n (ended absent)) size-absent (reached-end absent (tests .5))) (quiet-end (ended absent) (tests .6)) (known-end 2 (ended absent) (tests .7)))
+
+-- Without "no message in flight": a report is on its way.
+pub quiet-is-needed : ((n : ℕ) (s : State) → Reaches flat n s → AllEntered n s → AllDeathsKnown n s → AllDecided n s) → ⊥
+quiet-is-needed h =
+    undecided-end 2 (ended busy) (tests .12)
+    (h 2 (ended busy) (subst (λ (n : ℕ). Reaches flat n (ended busy)) size-busy (reached-end busy (tests .9))) (entered-end 2 (ended busy) (tests .10)) (known-end 2 (ended busy) (tests .11)))
+
+-- Without "has marked every dead one": nobody tells a rank that its parent is dead.
+pub notice-is-needed : ((n : ℕ) (s : State) → Reaches flat n s → Quiet s → AllEntered n s → AllDecided n s) → ⊥
+notice-is-needed h =
+    undecided-end 2 (ended untold) (tests .16)
+    (h 2 (ended untold) (subst (λ (n : ℕ). Reaches flat n (ended untold)) size-untold (reached-end untold (tests .13))) (quiet-end (ended untold) (tests .14)) (entered-end 2 (ended untold) (tests .15)))
