@@ -1,4 +1,4 @@
--- What a rank does: document 01's rules, in its order, over any ancestor sets. n is the group's size, me the rank's own number.
+-- What a rank does: document 01's rules, in its order and with request 2026-04's for an UP, over any ancestor sets. n is the group's size, me the rank's own number.
 use Prim.Native.Nat.{ℕ}
 use mathlib.Core.Bool.{Bool, cond, _&&_, _||_}
 use lib.Dec.{eqb}
@@ -54,11 +54,10 @@ module _ (anc : ℕ → ℕ) (n me : ℕ) where
   unfoldable pub entering : ℕ → Rank → Acted
   entering w r = settling (saying (becoming gathering (combining w r)) silent) 0
 
-  -- A report x from q: q joins heard and owed, word becomes word AND x.
+  -- UP x from q. If decided, send DOWN result to q. Else q joins heard and owed, word becomes word AND x. Then settle.
   unfoldable pub noting : ℕ → ℕ → Rank → Rank
   noting q x r = owing q (combining x (hearing anc n me (add (r .heard) q) r))
 
-  -- UP x from q. If decided, send DOWN result to q. Else note the report. Then settle.
   unfoldable pub raised : ℕ → ℕ → Rank → Said
   raised q x r =
       cond (inPhase decided r)

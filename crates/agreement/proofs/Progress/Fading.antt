@@ -1,12 +1,12 @@
 -- A death and the loss of a message with a dead end keep the invariant: records stay, fewer ranks live, and between living ranks every
 -- message stays. Assumes nothing.
 use mathlib.Core.Path.{_≡_, sym, subst}
-use mathlib.Core.Bool.{true, false}
-use mathlib.Core.Logic.{_⊎_, inl, inr, ⊎-elim}
+use mathlib.Core.Bool.{true}
+use mathlib.Core.Logic.{inl, inr}
 use Prim.Native.Nat.{ℕ}
 use Rattle.sets.specs.Sets.{has}
 use Rattle.sets.proofs.Laws.Bools.{clash, fails}
-use Rattle.tree.specs.Tree.{parent, children}
+use Rattle.tree.specs.Tree.{parent}
 use Rattle.rank.specs.declared.Rank.{Rank}
 use Rattle.rank.specs.Words.{gathering, waiting, decided, up, down, ask}
 use Rattle.rank.specs.Turns.{Root, Leads}
@@ -14,7 +14,7 @@ use Rattle.group.specs.declared.State.{State}
 use Rattle.group.specs.States.{rankAt}
 use Rattle.group.specs.Moves.{Flies, Fades}
 use Rattle.agreement.specs.Progress.{Lives}
-use Rattle.agreement.proofs.Progress.Standing.{Early, New, NoneNew, Calm, Owes, Held, InDebt, Polled, Standing}
+use Rattle.agreement.proofs.Progress.Standing.{Early, New, NoneNew, Calm, Owes, owes-on, Held, InDebt, Polled, Standing}
 
 module _ (anc : ℕ → ℕ) (n : ℕ) (s s′ : State) (t : Fades s s′) (inv : Standing anc n s) where
   lived : (x : ℕ) → Lives n s′ x → Lives n s x
@@ -32,19 +32,10 @@ module _ (anc : ℕ → ℕ) (n : ℕ) (s s′ : State) (t : Fades s s′) (inv 
   kept : (k b x : ℕ) → Lives n s′ b → Lives n s′ x → Flies s k b x → Flies s′ k b x
   kept k b x lb lx h = t .stays k b x (lived b lb .1) (lived x lx .1) h
 
-  owes : (x a : ℕ) → Lives n s′ x → Lives n s′ a → Owes anc n (Flies s ask a x) a (rankAt s′ a) x → Owes anc n (Flies s′ ask a x) a (rankAt s′ a) x
-  owes x a lx la o = (
-    o .0,
-    o .1,
-    ⊎-elim (λ (y : has (rankAt s′ a .heard) x ≡ true). inl y)
-        (λ (y : (rankAt s′ a .phase ≡ gathering) × Root anc a (rankAt s′ a) × ((has (children anc n (rankAt s′ a .marks) a) x ≡ false) ⊎ Flies s ask a x)).
-        inr (y .0, y .1, ⊎-elim (λ (v : has (children anc n (rankAt s′ a .marks) a) x ≡ false). inl v) (λ (v : Flies s ask a x). inr (kept ask a x la lx v)) (y .2))) (o .2),
-  )
-
   still-held : (x a : ℕ) → Lives n s′ x → Lives n s′ a → Held anc n s x a → Held anc n s′ x a
   still-held x a lx la (inl h) = inl (kept up x a lx la h)
   still-held x a lx la (inr (inl h)) = inr (inl (kept down a x la lx h))
-  still-held x a lx la (inr (inr h)) = inr (inr (owes x a lx la (subst (λ (r : Rank). Owes anc n (Flies s ask a x) a r x) (sym (t .ranks-stay a)) h)))
+  still-held x a lx la (inr (inr h)) = inr (inr (owes-on anc n (Flies s ask a x) (Flies s′ ask a x) a (rankAt s′ a) x (kept ask a x la lx) (subst (λ (r : Rank). Owes anc n (Flies s ask a x) a r x) (sym (t .ranks-stay a)) h)))
 
   still-polled : (a c : ℕ) → Lives n s′ a → Lives n s′ c → Polled anc n s a c → Polled anc n s′ a c
   still-polled a c la lc (inl h) = inl (still-calm h)

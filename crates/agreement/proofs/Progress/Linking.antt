@@ -19,7 +19,7 @@ use Rattle.group.specs.declared.State.{State}
 use Rattle.group.specs.States.{rankAt}
 use Rattle.group.specs.Moves.{Flies, Turns}
 use Rattle.agreement.specs.Progress.{Lives}
-use Rattle.agreement.proofs.Progress.Standing.{Calm, Owes, Held, InDebt, Polled, Standing}
+use Rattle.agreement.proofs.Progress.Standing.{Calm, Owes, owes-on, Held, InDebt, Polled, Standing}
 use Rattle.agreement.proofs.Progress.Turning.{Truthful, lived, unmarked, own-lives, root-stays, calm-stays, only-root}
 
 module _ (anc : ℕ → ℕ) (tree : Ancestry anc) (chain : Chained anc) (n : ℕ) (small : n ≤ 64) (s s′ : State) (p kind q : ℕ) (f g : Send) (t : Turns anc n s s′ p kind q f g)
@@ -129,16 +129,8 @@ module _ (anc : ℕ → ℕ) (tree : Ancestry anc) (chain : Chained anc) (n : �
   others-held : (x a : ℕ) → (x ≡ p → ⊥) → (a ≡ p → ⊥) → Held anc n s x a → Held anc n s′ x a
   others-held x a dx da (inl h) = inl (kept up x a da h)
   others-held x a dx da (inr (inl h)) = inr (inl (kept down a x dx h))
-  others-held x a dx da (inr (inr h)) = inr (inr (go (subst (λ (r : Rank). Owes anc n (Flies s ask a x) a r x) (sym (t .others a da)) h)))
-    where
-      go : Owes anc n (Flies s ask a x) a (rankAt s′ a) x → Owes anc n (Flies s′ ask a x) a (rankAt s′ a) x
-      go o = (
-        o .0,
-        o .1,
-        ⊎-elim (λ (y : has (rankAt s′ a .heard) x ≡ true). inl y)
-            (λ (y : (rankAt s′ a .phase ≡ gathering) × Root anc a (rankAt s′ a) × ((has (children anc n (rankAt s′ a .marks) a) x ≡ false) ⊎ Flies s ask a x)).
-            inr (y .0, y .1, ⊎-elim (λ (v : has (children anc n (rankAt s′ a .marks) a) x ≡ false). inl v) (λ (v : Flies s ask a x). inr (kept ask a x dx v)) (y .2))) (o .2),
-      )
+  others-held x a dx da (inr (inr h)) =
+      inr (inr (owes-on anc n (Flies s ask a x) (Flies s′ ask a x) a (rankAt s′ a) x (kept ask a x dx) (subst (λ (r : Rank). Owes anc n (Flies s ask a x) a r x) (sym (t .others a da)) h)))
 
   pub held′ : (x a : ℕ) → Lives n s′ x → rankAt s′ x .phase ≡ waiting → parent anc (rankAt s′ x .marks) x ≡ a → Lives n s′ a → Held anc n s′ x a
   held′ x a lx w e la = go (eq-or-ne x p) (eq-or-ne a p)

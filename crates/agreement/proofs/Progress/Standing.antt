@@ -2,9 +2,10 @@
 -- heard, reports or waits has nobody new under it; while there is a new rank nobody has decided. A rank that waits is held: its report is on
 -- the way, an answer is, or its parent owes it one. A child of a gathering root is polled: asked, or in debt to the root.
 use Prim.Native.Nat.{ℕ, _<_}
+use native.Mathlib.Omega.{arith}
 use mathlib.Core.Path.{_≡_}
 use mathlib.Core.Bool.{true, false}
-use mathlib.Core.Logic.{_⊎_}
+use mathlib.Core.Logic.{_⊎_, inl, inr, ⊎-elim}
 use Rattle.sets.specs.Sets.{has}
 use Rattle.tree.specs.Tree.{parent, children}
 use Rattle.tree.specs.Relations.{Under}
@@ -20,6 +21,10 @@ module _ (anc : ℕ → ℕ) (n : ℕ) where
   -- A living rank that is outside, or gathers with a parent.
   abbrev pub Early : ℕ → Rank → Type 0
   Early x r = (r .phase ≡ outside) ⊎ ((r .phase ≡ gathering) × (Root anc x r → ⊥))
+
+  pub not-early : (x : ℕ) (r : Rank) → gathering < r .phase → Early x r → ⊥
+  not-early x r l (inl e) = omega arith
+  not-early x r l (inr h) = let e : r .phase ≡ gathering = h .0 in omega arith
 
   abbrev pub New : State → ℕ → Type 0
   New s x = Lives n s x × Early x (rankAt s x)
@@ -37,6 +42,16 @@ module _ (anc : ℕ → ℕ) (n : ℕ) where
   Owes asked a r x =
       (r .phase ≡ decided → ⊥) × (has (r .owed) x ≡ true)
       × ((has (r .heard) x ≡ true) ⊎ ((r .phase ≡ gathering) × Root anc a r × ((has (children anc n (r .marks) a) x ≡ false) ⊎ asked)))
+
+  -- What is asked may change.
+  pub owes-on : (A B : Type 0) (a : ℕ) (r : Rank) (x : ℕ) → (A → B) → Owes A a r x → Owes B a r x
+  owes-on A B a r x f o = (
+    o .0,
+    o .1,
+    ⊎-elim (λ (y : has (r .heard) x ≡ true). inl y)
+        (λ (y : (r .phase ≡ gathering) × Root anc a r × ((has (children anc n (r .marks) a) x ≡ false) ⊎ A)).
+        inr (y .0, y .1, ⊎-elim (λ (v : has (children anc n (r .marks) a) x ≡ false). inl v) (λ (v : A). inr (f v)) (y .2))) (o .2),
+  )
 
   -- Rank x, which waits, is held by a.
   abbrev pub Held : State → ℕ → ℕ → Type 0

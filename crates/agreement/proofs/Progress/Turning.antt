@@ -18,7 +18,7 @@ use Rattle.group.specs.declared.State.{State}
 use Rattle.group.specs.States.{rankAt}
 use Rattle.group.specs.Moves.{Flies, Turns}
 use Rattle.agreement.specs.Progress.{Lives}
-use Rattle.agreement.proofs.Progress.Standing.{Early, New, NoneNew, Calm, Standing}
+use Rattle.agreement.proofs.Progress.Standing.{Early, not-early, New, NoneNew, Calm, Standing}
 
 -- Every death that a rank has marked is one.
 abbrev pub Truthful : ℕ → State → Type 0
@@ -89,16 +89,12 @@ module _ (anc : ℕ → ℕ) (tree : Ancestry anc) (chain : Chained anc) (n : �
       go : Covered anc n (rankAt s′ p .marks) p x → ⊥
       go k = own-heard (k .child) (c (k .child) (k .isChild)) x (k .under) w
 
-  not-early : rankAt s′ p .phase ≡ waiting → Early anc n p (rankAt s′ p) → ⊥
-  not-early w (inl e) = omega arith
-  not-early w (inr h) = let e : rankAt s′ p .phase ≡ gathering = h .0 in omega arith
-
   own-waits : rankAt s′ p .phase ≡ waiting → NoneNew anc n s′ p
   own-waits w = go (t .turn .was-waiting w)
     where
       go : (rankAt s p .phase ≡ waiting) ⊎ Complete anc n p (rankAt s′ p) → NoneNew anc n s′ p
       go (inl e) = still-none p (inv .waiting-old p (t .own) e)
-      go (inr c) = settled (not-early w) c
+      go (inr c) = settled (not-early anc n p (rankAt s′ p) (omega arith)) c
 
   pub waiting-old′ : (b : ℕ) → b < n → rankAt s′ b .phase ≡ waiting → NoneNew anc n s′ b
   waiting-old′ b l w = go (eq-or-ne b p)
@@ -132,10 +128,6 @@ module _ (anc : ℕ → ℕ) (tree : Ancestry anc) (chain : Chained anc) (n : �
       go (inr (inl k)) = absurd (c .1 q p (taken down (omega arith) k))
       go (inr (inr h)) = h
 
-  late-decided : rankAt s′ p .phase ≡ decided → Early anc n p (rankAt s′ p) → ⊥
-  late-decided w (inl e) = omega arith
-  late-decided w (inr h) = let e : rankAt s′ p .phase ≡ gathering = h .0 in omega arith
-
   pub new-calm′ : (x : ℕ) → New anc n s′ x → Calm anc n s′
   new-calm′ x w = calm-stays c stays
     where
@@ -151,4 +143,4 @@ module _ (anc : ℕ → ℕ) (tree : Ancestry anc) (chain : Chained anc) (n : �
       stays : rankAt s′ p .phase ≡ decided → ⊥
       stays e =
           let h = only-root c e in
-          ⊎-elim (λ (y : x ≡ p). late-decided e (subst (λ (z : ℕ). Early anc n z (rankAt s′ z)) y (w .1))) (λ (y : x ≡ p → ⊥). covered (h .0) (h .1) y) (eq-or-ne x p)
+          ⊎-elim (λ (y : x ≡ p). not-early anc n p (rankAt s′ p) (omega arith) (subst (λ (z : ℕ). Early anc n z (rankAt s′ z)) y (w .1))) (λ (y : x ≡ p → ⊥). covered (h .0) (h .1) y) (eq-or-ne x p)

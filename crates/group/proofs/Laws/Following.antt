@@ -10,7 +10,7 @@ use lib.ListN.{length, getD}
 use lib.Seq.{getD-take, getD-set-same, getD-set-other}
 use borrow.Author.Tests.{eqb-true, eq-eqb, ne-eqb}
 use Rattle.sets.specs.Sets.{has, add, listed}
-use Rattle.sets.proofs.Laws.Bools.{passes-or-fails, clash, passes, eq-or-ne, and-i, or-cases, not-i, cond-false}
+use Rattle.sets.proofs.Laws.Bools.{passes-or-fails, clash, passes, eq-or-ne, and-i, or-cases, not-i, cond-false, or-neither}
 use Rattle.sets.proofs.Laws.Members.{has-add-more}
 use Rattle.tree.specs.Relations.{Ancestry}
 use Rattle.rank.specs.declared.Rank.{Rank}
@@ -39,10 +39,6 @@ use Rattle.group.proofs.Laws.Flying.{Among, Named, posted-was, posted-s
 -- the state after the plan of an event
 abbrev after : State → ℕ → ℕ → Plan → State
 after s kind a p = applied s a (subjectOf s kind a) p
-
-neither : (a b : Bool) → a || b ≡ false → (a ≡ false) × (b ≡ false)
-neither true b h = absurd (clash true refl h)
-neither false b h = (refl, h)
 
 module _ (anc : ℕ → ℕ) (s : State) (f : Facts anc s) (kind a b : ℕ) (p : Plan) (e : p ≡ planOf anc s kind a b) (z : p .answer ≡ 0) where
   flying-long : length (flying s) ≡ s .group .count
@@ -208,10 +204,10 @@ module _ (anc : ℕ → ℕ) (s : State) (f : Facts anc s) (kind a b : ℕ) (p :
 
       module _ (t : has (s .group .dead) (subjectOf s kind a) || has (rankAt s (subjectOf s kind a) .marks) (placeAt s a .from) ≡ false) where
         living : has (s .group .dead) (subjectOf s kind a) ≡ false
-        living = neither (has (s .group .dead) (subjectOf s kind a)) (has (rankAt s (subjectOf s kind a) .marks) (placeAt s a .from)) t .0
+        living = or-neither (has (s .group .dead) (subjectOf s kind a)) (has (rankAt s (subjectOf s kind a) .marks) (placeAt s a .from)) t .0
 
         unmarked : has (rankAt s (subjectOf s kind a) .marks) (placeAt s a .from) ≡ false
-        unmarked = neither (has (s .group .dead) (subjectOf s kind a)) (has (rankAt s (subjectOf s kind a) .marks) (placeAt s a .from)) t .1
+        unmarked = or-neither (has (s .group .dead) (subjectOf s kind a)) (has (rankAt s (subjectOf s kind a) .marks) (placeAt s a .from)) t .1
 
         taken-turn : (word : ℕ) → placeAt s a .kind ≡ word → Turning anc (s .group .n) (subjectOf s kind a) word (placeAt s a .from) (rankAt s (subjectOf s kind a)) (p .acted) → Move anc (s .group .n) s (after s kind a p)
         taken-turn word w u = turns-after word (placeAt s a .from) (λ x. omega arith) living u (λ y. (w, refl, receiver)) (λ d. (places-kind anc s f kind a b p e z k, unmarked))

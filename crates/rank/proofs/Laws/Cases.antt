@@ -6,13 +6,13 @@ use mathlib.Core.Logic.{_⊎_, inl, inr, ⊎-elim}
 use Prim.Native.Nat.{ℕ}
 use lib.Dec.{eqb}
 use borrow.Author.Tests.{eq-eqb, eqb-true, eqb-false}
-use Rattle.sets.specs.Sets.{none, has, only, add}
+use Rattle.sets.specs.Sets.{none, has, only}
 use Rattle.sets.proofs.Laws.Bools.{and-i, and-l, and-r, or-l, or-r, or-cases, clash}
 use Rattle.rank.specs.declared.Rank.{Rank}
 use Rattle.rank.specs.declared.Said.{Said}
 use Rattle.rank.specs.Words.{gathering, waiting, decided}
-use Rattle.rank.specs.Records.{becoming, combining, owing, parentOf, childrenOf, hearing}
-use Rattle.rank.specs.Sends.{silent, reports, tells, asks}
+use Rattle.rank.specs.Records.{becoming, owing, parentOf, childrenOf}
+use Rattle.rank.specs.Sends.{silent, reports, tells}
 use Rattle.rank.specs.Rules.{inPhase, saying, deciding, settled, noting, raised, lowered, asked, renewing, regathering, orphaned, inheriting, bereaved}
 
 -- a rule by a test: what holds either way holds of it

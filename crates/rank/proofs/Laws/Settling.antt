@@ -1,13 +1,12 @@
 -- Settle makes a turn of a turn: a rule's own part, with its first send alone, and what settle adds to it. Assumes nothing.
 use mathlib.Core.Path.{_≡_, refl, sym, ap, _∙_}
-use mathlib.Core.Bool.{Bool, true, false, cond, not, _&&_}
+use mathlib.Core.Bool.{true, false}
 use mathlib.Core.Logic.{_⊎_, inl, inr, ⊎-elim}
 use Prim.Native.Nat.{ℕ, _≤_}
 use native.Mathlib.Omega.{arith}
-use lib.Dec.{eqb}
-use borrow.Author.Tests.{eqb-true, eq-eqb}
+use borrow.Author.Tests.{eq-eqb}
 use Rattle.sets.specs.Sets.{none, has, only, union, minus}
-use Rattle.sets.proofs.Laws.Bools.{clash, passes, and-i, and-l, not-i, or-r}
+use Rattle.sets.proofs.Laws.Bools.{clash, or-r}
 use Rattle.sets.proofs.Laws.Members.{has-zero, has-only, has-union, minus-i, minus-not}
 use Rattle.tree.specs.Tree.{parent, children}
 use Rattle.tree.proofs.Laws.Parents.{no-parent, no-parent-all}
@@ -18,8 +17,8 @@ use Rattle.rank.specs.declared.Acted.{Acted}
 use Rattle.rank.specs.Words.{gathering, waiting, decided, up, down, ask}
 use Rattle.rank.specs.Records.{becoming, concluding, parentOf, childrenOf, awaiting}
 use Rattle.rank.specs.Sends.{silent, reports, tells, asks}
-use Rattle.rank.specs.Rules.{inPhase, saying, deciding, settled, settling}
-use Rattle.rank.specs.Turns.{Says, Root, Leads, Polls, Complete, Turn, overheard}
+use Rattle.rank.specs.Rules.{saying, deciding, settled, settling}
+use Rattle.rank.specs.Turns.{Says, Root, Leads, Polls, Complete, Turn}
 use Rattle.rank.proofs.Laws.Cases.{settled-by}
 
 -- the whole of a rule is a turn
@@ -31,14 +30,14 @@ pub first-says : (f : Send) (kind x : ℕ) → Says f silent kind x → (f .kind
 unfolding silent
 first-says f kind x s = ⊎-elim (λ (h : (f .kind ≡ kind) × (has (f .to) x ≡ true)). h) (λ (h : (0 ≡ kind) × (has 0 x ≡ true)). absurd (clash (has 0 x) (h .1) (has-zero x))) s
 
+-- and a second send adds to it
+more-says : (f g : Send) (kind x : ℕ) → Says f silent kind x → Says f g kind x
+more-says f g kind x s = inl (first-says f kind x s)
+
 -- two silent sends say nothing
 pub silence : (kind x : ℕ) → Says silent silent kind x → ⊥
 unfolding silent
 silence kind x s = clash (has 0 x) (first-says silent kind x s .1) (has-zero x)
-
--- and a second send adds to it
-more-says : (f g : Send) (kind x : ℕ) → Says f silent kind x → Says f g kind x
-more-says f g kind x s = inl (first-says f kind x s)
 
 pub only-self : (p x : ℕ) → x ≡ p → has (only p) x ≡ true
 only-self p x e = has-only p x ∙ eq-eqb x p e
@@ -195,22 +194,3 @@ module _ (anc : ℕ → ℕ) (n me : ℕ) where
   pub settling-turn : (kind q : ℕ) (r : Rank) (s : Said) (m : ℕ) → me ≤ none → Part kind q r s → Turning anc n me kind q r (settling anc n me s m)
   unfolding settling
   settling-turn kind q r s m b t = settled-turn kind q r s b t
-
-  -- ---- what an ASK of another agreement does, by its cases
-
-  pub overheard-by : (P : Said → Type 0) (r v : Rank)
-      → (r .phase ≡ waiting → P (saying v (reports v (parentOf anc me v))))
-      → ((r .phase ≡ waiting → parentOf anc me r ≡ parentOf anc me v) → P (saying v silent))
-      → P (overheard anc n me r v)
-  unfolding overheard inPhase
-  overheard-by P r v moves rests = go (w && not same) refl
-    where
-      w : Bool
-      w = eqb (r .phase) waiting
-
-      same : Bool
-      same = eqb (parentOf anc me r) (parentOf anc me v)
-
-      go : (b : Bool) → w && not same ≡ b → P (cond b (saying v (reports v (parentOf anc me v))) (saying v silent))
-      go true e = moves (eqb-true (r .phase) waiting (and-l w (not same) e))
-      go false e = rests (λ p. eqb-true (parentOf anc me r) (parentOf anc me v) (passes same (λ d. clash (w && not same) (and-i w (not same) (eq-eqb (r .phase) waiting p) (not-i same d)) e)))

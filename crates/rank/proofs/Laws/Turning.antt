@@ -1,13 +1,13 @@
 -- What each rule gives the others: every rule is a turn. Over any ancestor sets. Assumes nothing.
 use mathlib.Core.Path.{_≡_, refl, sym, _∙_}
-use mathlib.Core.Bool.{Bool, true, false, cond}
+use mathlib.Core.Bool.{Bool, true, false, cond, not, _&&_}
 use mathlib.Core.Logic.{_⊎_, inl, inr, ⊎-elim}
 use Prim.Native.Nat.{ℕ, _≤_, _<_}
 use native.Mathlib.Omega.{arith}
 use lib.Dec.{eqb}
-use borrow.Author.Tests.{eqb-true}
+use borrow.Author.Tests.{eqb-true, eq-eqb}
 use Rattle.sets.specs.Sets.{none, has, only, add, union, meet, minus, below}
-use Rattle.sets.proofs.Laws.Bools.{clash, and-i, or-cases}
+use Rattle.sets.proofs.Laws.Bools.{clash, and-i, or-cases, passes, and-l, not-i}
 use Rattle.sets.proofs.Laws.Members.{has-zero, has-meet, has-add, has-add-same, has-add-more, has-add-less}
 use Rattle.tree.specs.Tree.{parent, children, moved}
 use Rattle.tree.specs.Relations.{Ancestry}
@@ -19,11 +19,30 @@ use Rattle.rank.specs.declared.Said.{Said}
 use Rattle.rank.specs.Words.{outside, gathering, waiting, up, down, ask}
 use Rattle.rank.specs.Records.{becoming, combining, concluding, owing, parentOf, childrenOf, hearing, viewing}
 use Rattle.rank.specs.Sends.{silent, reports, tells, asks}
-use Rattle.rank.specs.Rules.{saying, deciding, done, settling, entering, noting, raised, takingUp, takingDown, asked, takingAsk, renewing, regathering, inheriting, bereaved, noticing}
+use Rattle.rank.specs.Rules.{inPhase, saying, deciding, done, settling, entering, noting, raised, takingUp, takingDown, asked, takingAsk, renewing, regathering, inheriting, bereaved, noticing}
 use Rattle.rank.specs.Order.{Ordered}
 use Rattle.rank.specs.Turns.{Says, Root, Leads, Polls, Turn, overheard, overhearing}
 use Rattle.rank.proofs.Laws.Cases.{raised-by, lowered-by, asked-by, orphaned-by, bereaved-by}
-use Rattle.rank.proofs.Laws.Settling.{Turning, first-says, only-self, takes-none, silent-fits, reports-fits, tells-fits, asks-fits, stays, told, Part, settling-turn, overheard-by}
+use Rattle.rank.proofs.Laws.Settling.{Turning, first-says, only-self, takes-none, silent-fits, reports-fits, tells-fits, asks-fits, stays, told, Part, settling-turn}
+
+module _ (anc : ℕ → ℕ) (n me : ℕ) where
+  -- what an ASK of another agreement does, by its cases
+  overheard-by : (P : Said → Type 0) (r v : Rank)
+      → (r .phase ≡ waiting → P (saying v (reports v (parentOf anc me v))))
+      → ((r .phase ≡ waiting → parentOf anc me r ≡ parentOf anc me v) → P (saying v silent))
+      → P (overheard anc n me r v)
+  unfolding overheard inPhase
+  overheard-by P r v moves rests = go (w && not same) refl
+    where
+      w : Bool
+      w = eqb (r .phase) waiting
+
+      same : Bool
+      same = eqb (parentOf anc me r) (parentOf anc me v)
+
+      go : (b : Bool) → w && not same ≡ b → P (cond b (saying v (reports v (parentOf anc me v))) (saying v silent))
+      go true e = moves (eqb-true (r .phase) waiting (and-l w (not same) e))
+      go false e = rests (λ p. eqb-true (parentOf anc me r) (parentOf anc me v) (passes same (λ d. clash (w && not same) (and-i w (not same) (eq-eqb (r .phase) waiting p) (not-i same d)) e)))
 
 module _ (anc : ℕ → ℕ) (tree : Ancestry anc) (n me : ℕ) (small : n ≤ 64) (own : me < n) where
   pub enter-turn : (w : ℕ) (r : Rank) → Ordered anc n me r → r .phase ≡ outside → Turning anc n me 0 0 r (entering anc n me w r)

@@ -90,6 +90,10 @@ pub or-none : (a b : Bool) → a ≡ false → b ≡ false → a || b ≡ false
 or-none true b p q = absurd (true≢false p)
 or-none false b p q = q
 
+pub or-neither : (a b : Bool) → a || b ≡ false → (a ≡ false) × (b ≡ false)
+or-neither true b h = absurd (true≢false h)
+or-neither false b h = (refl, h)
+
 pub or-false-r : (a : Bool) → a || false ≡ a
 or-false-r true = refl
 or-false-r false = refl
