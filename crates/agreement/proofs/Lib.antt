@@ -1,2 +1,8 @@
+pub mod Living
+pub mod Running
 pub mod Progress
+pub mod Concord
+pub mod Coverage
+pub mod Agreement
+pub mod Overhearing
 pub mod Witnesses

@@ -1,16 +1,20 @@
--- Each test of the list passes, by computation; and what follows: the claim's premises are met in a state with a death, and without any one of
--- them the claim is false. Assumes nothing.
+-- Each test of the list passes, by computation; and what follows: the premises of "nobody hangs" are met in a state with a death, and without
+-- any one of them it is false; living ranks agree where dead ones held other results, and without "living" the agreement is false. Assumes
+-- nothing.
 use mathlib.Core.Path.{_≡_, refl, ap, subst, _∙_}
-use mathlib.Core.Bool.{Bool, true, false, not, _||_}
-use mathlib.Core.List.{List}
+use mathlib.Core.Bool.{Bool, true, false, cond, not, _||_}
+use mathlib.Core.List.{List, [], _∷_}
 use mathlib.Core.Logic.{_⊎_, inl, inr, ⊎-elim}
 use Prim.Native.Nat.{ℕ, _<_}
+use native.Mathlib.Omega.{arith}
 use lib.Dec.{eqb}
+use lib.ListN.{getD}
 use borrow.Author.Tests.{eqb-true, eqb-false, eq-eqb, not-true}
 use Rattle.sets.proofs.Laws.Bools.{clash, passes-or-fails, or-l, or-r, or-cases, all-head, all-tail}
 use Rattle.sets.proofs.Laws.Members.{has-zero, minus-not}
 use Rattle.sets.proofs.Laws.Searches.{every-at, every-i}
 use Rattle.sets.specs.Sets.{has, only, union, meet, minus, add, below, setOf, count, largest, smallest, listed, every, all}
+use Rattle.tree.proofs.Laws.Rows.{same-eq}
 use Rattle.tree.specs.Calls.{movedBelow, wrongSize, same}
 use Rattle.tree.specs.Tree.{halvings, flat, parent, children, row, entry, fresh, moves, moved}
 use Rattle.rank.specs.Order.{proper, clauses, inOrder}
@@ -26,16 +30,17 @@ use Rattle.group.specs.Starting.{firstRank, firstRow, freshState, started}
 use Rattle.group.specs.States.{rankAt, rowAt, placeAt, flying}
 use Rattle.schedule.specs.Files.{byteAt, shortAt, numberAt, eventAt, eventsIn, wrongMark, wrongVersion, broken, header, numberOf}
 use Rattle.schedule.specs.Runs.{written, stepAt, played, refusedRun, acceptedRun, opened, run}
-use Rattle.schedule.specs.Witnesses.{then, file}
+use Rattle.schedule.specs.Witnesses.{then, file, three}
 use Rattle.rank.specs.Words.{outside, decided}
 use Rattle.group.specs.declared.State.{State}
-use Rattle.group.specs.Reaching.{Reaches}
+use Rattle.group.specs.Reaching.{Reaches, begun, next}
 use Rattle.schedule.proofs.Reaching.{run-reaches}
 use Rattle.agreement.specs.Progress.{Lives, Quiet, AllEntered, AllDeathsKnown, AllDecided}
-use Rattle.agreement.specs.Witnesses.{mourned, absent, busy, untold, slice, runs, ended, isQuiet, allEntered, allDeathsKnown, allDecided, witnesses}
+use Rattle.agreement.specs.Agreement.{isEntry, hasEntered, wordOf}
+use Rattle.agreement.specs.Witnesses.{mourned, absent, busy, untold, bereft, slice, runs, ended, isQuiet, allEntered, allDeathsKnown, allDecided, shown, LivesWith, DiedWith, witnesses}
 
 pub the-tests-pass : all witnesses ≡ true
-unfolding has only union meet minus add below setOf count largest smallest listed every all movedBelow wrongSize same halvings flat parent children row entry fresh moves moved proper clauses inOrder becoming combining concluding owing parentOf childrenOf awaiting freshRank hearing viewing inPhase saying deciding settled done settling entering noting raised takingUp lowered takingDown asked takingAsk renewing regathering orphaned inheriting bereaved noticing silent reports tells asks letter letters sent combine size idle subject refusing accepting afterwards fitting delivered acting planned posted placed joining applied refused carried subjectOf planOf stepped padded without isWithin memberOrder zeroRecord strangerOrder seatOrder rankOrder messageOrder zeroPlace netOrder placeOrder orderly event namesRank namesPlace wrongKind wrongRank noMessage isDead notOutside isLiving isLast bothLive lateRefusal refusal firstRank firstRow freshState started rankAt rowAt placeAt flying byteAt shortAt numberAt eventAt eventsIn wrongMark wrongVersion broken header numberOf written stepAt played refusedRun acceptedRun opened run then file mourned absent busy untold slice runs ended isQuiet allEntered allDeathsKnown allDecided witnesses
+unfolding has only union meet minus add below setOf count largest smallest listed every all movedBelow wrongSize same halvings flat parent children row entry fresh moves moved proper clauses inOrder becoming combining concluding owing parentOf childrenOf awaiting freshRank hearing viewing inPhase saying deciding settled done settling entering noting raised takingUp lowered takingDown asked takingAsk renewing regathering orphaned inheriting bereaved noticing silent reports tells asks letter letters sent combine size idle subject refusing accepting afterwards fitting delivered acting planned posted placed joining applied refused carried subjectOf planOf stepped padded without isWithin memberOrder zeroRecord strangerOrder seatOrder rankOrder messageOrder zeroPlace netOrder placeOrder orderly event namesRank namesPlace wrongKind wrongRank noMessage isDead notOutside isLiving isLast bothLive lateRefusal refusal firstRank firstRow freshState started rankAt rowAt placeAt flying byteAt shortAt numberAt eventAt eventsIn wrongMark wrongVersion broken header numberOf written stepAt played refusedRun acceptedRun opened run then file three mourned absent busy untold bereft slice runs ended isQuiet allEntered allDeathsKnown allDecided shown witnesses
 the-tests-pass = refl
 
 -- ---- from the tests to the words
@@ -75,6 +80,25 @@ undecided-end n s t d =
     go i l (inl h) = or-l (has (s .group .dead) i) (eqb (rankAt s i .phase) decided) h
     go i l (inr h) = or-r (has (s .group .dead) i) (eqb (rankAt s i .phase) decided) (eq-eqb (rankAt s i .phase) decided (d i (l, h)))
 
+-- what is shown of a rank at its place in the list
+shown-at : (s : State) (i : ℕ) (l : List ℕ) → same (shown s i) l ≡ true → (cond (has (s .group .dead) i) 0 1 ≡ getD l 0 0) × (rankAt s i .phase ≡ getD l 1 0) × (rankAt s i .result ≡ getD l 2 0)
+unfolding shown
+shown-at s i l t = let e : shown s i ≡ l = same-eq (shown s i) l t in (ap (λ (k : List ℕ). getD k 0 0) e, ap (λ (k : List ℕ). getD k 1 0) e, ap (λ (k : List ℕ). getD k 2 0) e)
+
+lives-with : (n : ℕ) (s : State) (i w : ℕ) → i < n → same (shown s i) (1 ∷ 3 ∷ w ∷ []) ≡ true → LivesWith n s i w
+lives-with n s i w l t = let h = shown-at s i (1 ∷ 3 ∷ w ∷ []) t in (((l, alive (has (s .group .dead) i) (h .0)), h .1), h .2)
+  where
+    alive : (b : Bool) → _≡_ {A = ℕ} (cond b 0 1) 1 → b ≡ false
+    alive true e = absurd (omega arith)
+    alive false e = refl
+
+died-with : (n : ℕ) (s : State) (i w : ℕ) → i < n → same (shown s i) (0 ∷ 3 ∷ w ∷ []) ≡ true → DiedWith n s i w
+died-with n s i w l t = let h = shown-at s i (0 ∷ 3 ∷ w ∷ []) t in (l, died (has (s .group .dead) i) (h .0), h .1, h .2)
+  where
+    died : (b : Bool) → _≡_ {A = ℕ} (cond b 0 1) 0 → b ≡ true
+    died true e = refl
+    died false e = absurd (omega arith)
+
 -- ---- each test by itself
 
 abbrev Tests : Type 0
@@ -96,6 +120,17 @@ Tests =
     × (isQuiet (ended untold) ≡ true)
     × (allEntered 2 (ended untold) ≡ true)
     × (not (allDecided 2 (ended untold)) ≡ true)
+    × (runs three ≡ true)
+    × (same (shown (ended three) 0) (0 ∷ 3 ∷ 4 ∷ []) ≡ true)
+    × (same (shown (ended three) 1) (1 ∷ 3 ∷ 6 ∷ []) ≡ true)
+    × (same (shown (ended three) 2) (1 ∷ 3 ∷ 6 ∷ []) ≡ true)
+    × (runs bereft ≡ true)
+    × (same (shown (ended bereft) 0) (0 ∷ 3 ∷ 8 ∷ []) ≡ true)
+    × (same (shown (ended bereft) 1) (0 ∷ 3 ∷ 12 ∷ []) ≡ true)
+    × (same (shown (ended bereft) 2) (1 ∷ 3 ∷ 14 ∷ []) ≡ true)
+    × (same (shown (ended bereft) 3) (1 ∷ 3 ∷ 14 ∷ []) ≡ true)
+    × (eqb (started flat 1 .answer) 0 ≡ true)
+    × (eqb (event flat (started flat 1 .state) 1 0 9 .answer) 0 ≡ true)
 
 tests : Tests
 unfolding witnesses
@@ -117,7 +152,18 @@ tests =
     let t14 = all-tail _ _ t13 in
     let t15 = all-tail _ _ t14 in
     let t16 = all-tail _ _ t15 in
-    (all-head _ _ t0, all-head _ _ t1, all-head _ _ t2, all-head _ _ t3, all-head _ _ t4, all-head _ _ t5, all-head _ _ t6, all-head _ _ t7, all-head _ _ t8, all-head _ _ t9, all-head _ _ t10, all-head _ _ t11, all-head _ _ t12, all-head _ _ t13, all-head _ _ t14, all-head _ _ t15, all-head _ _ t16)
+    let t17 = all-tail _ _ t16 in
+    let t18 = all-tail _ _ t17 in
+    let t19 = all-tail _ _ t18 in
+    let t20 = all-tail _ _ t19 in
+    let t21 = all-tail _ _ t20 in
+    let t22 = all-tail _ _ t21 in
+    let t23 = all-tail _ _ t22 in
+    let t24 = all-tail _ _ t23 in
+    let t25 = all-tail _ _ t24 in
+    let t26 = all-tail _ _ t25 in
+    let t27 = all-tail _ _ t26 in
+    (all-head _ _ t0, all-head _ _ t1, all-head _ _ t2, all-head _ _ t3, all-head _ _ t4, all-head _ _ t5, all-head _ _ t6, all-head _ _ t7, all-head _ _ t8, all-head _ _ t9, all-head _ _ t10, all-head _ _ t11, all-head _ _ t12, all-head _ _ t13, all-head _ _ t14, all-head _ _ t15, all-head _ _ t16, all-head _ _ t17, all-head _ _ t18, all-head _ _ t19, all-head _ _ t20, all-head _ _ t21, all-head _ _ t22, all-head _ _ t23, all-head _ _ t24, all-head _ _ t25, all-head _ _ t26, all-head _ _ t27)
 
 size-mourned : byteAt mourned 5 ≡ 3
 unfolding byteAt mourned then file
@@ -134,6 +180,14 @@ size-busy = refl
 size-untold : byteAt untold 5 ≡ 2
 unfolding byteAt untold then file
 size-untold = refl
+
+size-three : byteAt three 5 ≡ 3
+unfolding byteAt three then file
+size-three = refl
+
+size-bereft : byteAt bereft 5 ≡ 4
+unfolding byteAt bereft then file
+size-bereft = refl
 
 -- ---- the claim is not empty, and each premise is needed
 
@@ -164,3 +218,41 @@ pub notice-is-needed : ((n : ℕ) (s : State) → Reaches flat n s → Quiet s �
 notice-is-needed h =
     undecided-end 2 (ended untold) (tests .16)
     (h 2 (ended untold) (subst (λ (n : ℕ). Reaches flat n (ended untold)) size-untold (reached-end untold (tests .13))) (quiet-end (ended untold) (tests .14)) (entered-end 2 (ended untold) (tests .15)))
+
+-- ---- the agreement, and why it speaks of living ranks
+
+-- Document 01's example: rank 0 decided 4 and died, and the living hold 6.
+pub the-living-hold-6 : Reaches flat 3 (ended three) × DiedWith 3 (ended three) 0 4 × LivesWith 3 (ended three) 1 6 × LivesWith 3 (ended three) 2 6
+the-living-hold-6 = (
+  subst (λ (n : ℕ). Reaches flat n (ended three)) size-three (reached-end three (tests .17)),
+  died-with 3 (ended three) 0 4 (omega arith) (tests .18),
+  lives-with 3 (ended three) 1 6 (omega arith) (tests .19),
+  lives-with 3 (ended three) 2 6 (omega arith) (tests .20),
+)
+
+-- Two roots lost one after the other: each had decided for itself, and the living hold 14.
+pub two-roots-lost : Reaches flat 4 (ended bereft) × DiedWith 4 (ended bereft) 0 8 × DiedWith 4 (ended bereft) 1 12 × LivesWith 4 (ended bereft) 2 14 × LivesWith 4 (ended bereft) 3 14
+two-roots-lost = (
+  subst (λ (n : ℕ). Reaches flat n (ended bereft)) size-bereft (reached-end bereft (tests .21)),
+  died-with 4 (ended bereft) 0 8 (omega arith) (tests .22),
+  died-with 4 (ended bereft) 1 12 (omega arith) (tests .23),
+  lives-with 4 (ended bereft) 2 14 (omega arith) (tests .24),
+  lives-with 4 (ended bereft) 3 14 (omega arith) (tests .25),
+)
+
+-- Without "living" the same result is not to be had: a dead rank may hold another.
+pub living-is-needed : ((n : ℕ) (s : State) → Reaches flat n s → (i j : ℕ) → i < n → j < n → rankAt s i .phase ≡ decided → rankAt s j .phase ≡ decided → rankAt s i .result ≡ rankAt s j .result) → ⊥
+living-is-needed h =
+    let t = the-living-hold-6 in
+    let e : rankAt (ended three) 0 .result ≡ rankAt (ended three) 1 .result = h 3 (ended three) (t .0) 0 1 (omega arith) (omega arith) (t .1 .2) (t .2 .0 .1) in
+    let d : rankAt (ended three) 0 .result ≡ 4 = t .1 .3 in
+    let l : rankAt (ended three) 1 .result ≡ 6 = t .2 .1 in
+    omega arith
+
+-- A rank alone that enters 9: the run has its entry, and its word.
+pub alone : Reaches flat 1 (event flat (started flat 1 .state) 1 0 9 .state)
+alone = next (started flat 1 .state) 1 0 9 (begun (eqb-true (started flat 1 .answer) 0 (tests .26))) (eqb-true (event flat (started flat 1 .state) 1 0 9 .answer) 0 (tests .27))
+
+pub a-word-is-entered : (hasEntered flat 1 (event flat (started flat 1 .state) 1 0 9 .state) alone 0 ≡ true) × (wordOf flat 1 (event flat (started flat 1 .state) 1 0 9 .state) alone 0 ≡ 9)
+unfolding hasEntered wordOf isEntry alone
+a-word-is-entered = (refl, refl)

@@ -1,2 +1,4 @@
 pub mod Progress
+pub mod Agreement
+pub mod Overhearing
 pub mod Witnesses

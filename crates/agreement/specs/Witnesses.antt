@@ -1,16 +1,21 @@
--- The claim of 2026-04 is not empty, and none of its premises can be left out: four schedules, and tests of the states in which they end.
-use Prim.Native.Nat.{ℕ}
-use mathlib.Core.Bool.{Bool, not, _||_}
+-- The claims are not empty, and no premise of them can be left out: six schedules, and tests of the states in which they end.
+use Prim.Native.Nat.{ℕ, _<_}
+use mathlib.Core.Path.{_≡_}
+use mathlib.Core.Bool.{Bool, true, cond, not, _||_}
 use mathlib.Core.List.{List, [], _∷_}
 use lib.Dec.{eqb}
 use lib.ListN.{replicate}
 use Rattle.sets.specs.Sets.{has, minus, every}
 use Rattle.tree.specs.Tree.{flat}
+use Rattle.tree.specs.Calls.{same}
 use Rattle.rank.specs.Words.{outside, decided}
 use Rattle.group.specs.declared.State.{State}
 use Rattle.group.specs.States.{rankAt}
+use Rattle.group.specs.Order.{event}
+use Rattle.group.specs.Starting.{started}
 use Rattle.schedule.specs.Runs.{run}
-use Rattle.schedule.specs.Witnesses.{then, file}
+use Rattle.schedule.specs.Witnesses.{then, file, three}
+use Rattle.agreement.specs.Agreement.{Decides}
 
 -- ---- schedules
 
@@ -43,11 +48,39 @@ busy = file 2 (then 1 1 5 (then 1 0 6 []))
 unfoldable pub untold : List ℕ
 untold = file 2 (then 1 1 5 (then 3 0 0 (then 5 0 0 [])))
 
+-- two roots are lost one after the other: rank 0 decides 8 and dies, then rank 1 decides 12 and dies, and no DOWN of theirs is taken; ranks 2 and
+-- 3, which hold 14 and 15, decide 14
+unfoldable pub bereft : List ℕ
+bereft =
+    file 4
+    (then 1 3 15
+    (then 1 2 14
+    (then 1 1 13
+    (then 1 0 11
+    (then 2 0 0
+    (then 2 0 0
+    (then 2 0 0
+    (then 3 0 0
+    (then 4 1 0
+    (then 2 0 0
+    (then 2 0 0
+    (then 2 0 0
+    (then 2 0 0
+    (then 2 0 0
+    (then 3 1 0
+    (then 4 2 1
+    (then 2 0 0
+    (then 2 1 0
+    (then 2 0 0
+    (then 2 0 0
+    (then 2 0 0
+    [])))))))))))))))))))))
+
 -- ---- where they end
 
--- room for the answers to eleven events
+-- room for the answers to twenty-one events
 unfoldable pub slice : List ℕ
-slice = replicate 33 0
+slice = replicate 63 0
 
 unfoldable pub runs : List ℕ → Bool
 runs f = eqb (run flat f slice .answer) 0
@@ -68,6 +101,17 @@ allDeathsKnown n s = every (λ i. has (s .group .dead) i || eqb (minus (s .group
 unfoldable pub allDecided : ℕ → State → Bool
 allDecided n s = every (λ i. has (s .group .dead) i || eqb (rankAt s i .phase) decided) n
 
+-- What the listing shows of a rank: 1 if it lives, its phase, its result.
+unfoldable pub shown : State → ℕ → List ℕ
+shown s i = cond (has (s .group .dead) i) 0 1 ∷ rankAt s i .phase ∷ rankAt s i .result ∷ []
+
+-- The same in words: rank i lives and has decided w; it died, and had decided w.
+abbrev pub LivesWith : ℕ → State → ℕ → ℕ → Type 0
+LivesWith n s i w = Decides n s i × (rankAt s i .result ≡ w)
+
+abbrev pub DiedWith : ℕ → State → ℕ → ℕ → Type 0
+DiedWith n s i w = (i < n) × (has (s .group .dead) i ≡ true) × (rankAt s i .phase ≡ decided) × (rankAt s i .result ≡ w)
+
 unfoldable pub witnesses : List Bool
 witnesses =
     -- all premises are met, and a rank is dead
@@ -87,4 +131,18 @@ witnesses =
     ∷ isQuiet (ended untold)
     ∷ allEntered 2 (ended untold)
     ∷ not (allDecided 2 (ended untold))
+    -- document 01's example: rank 0 decided 4 and died, the living hold 6
+    ∷ runs three
+    ∷ same (shown (ended three) 0) (0 ∷ 3 ∷ 4 ∷ [])
+    ∷ same (shown (ended three) 1) (1 ∷ 3 ∷ 6 ∷ [])
+    ∷ same (shown (ended three) 2) (1 ∷ 3 ∷ 6 ∷ [])
+    -- two roots lost, each with its own result, and the living hold a third
+    ∷ runs bereft
+    ∷ same (shown (ended bereft) 0) (0 ∷ 3 ∷ 8 ∷ [])
+    ∷ same (shown (ended bereft) 1) (0 ∷ 3 ∷ 12 ∷ [])
+    ∷ same (shown (ended bereft) 2) (1 ∷ 3 ∷ 14 ∷ [])
+    ∷ same (shown (ended bereft) 3) (1 ∷ 3 ∷ 14 ∷ [])
+    -- a rank alone enters 9
+    ∷ eqb (started flat 1 .answer) 0
+    ∷ eqb (event flat (started flat 1 .state) 1 0 9 .answer) 0
     ∷ []

@@ -5,7 +5,9 @@ use mathlib.Core.Bool.{true, false}
 use mathlib.Core.Logic.{_⊎_}
 use Rattle.sets.specs.Sets.{has}
 use Rattle.rank.specs.declared.Send.{Send}
+use Rattle.rank.specs.Words.{ask}
 use Rattle.rank.specs.Turns.{Says, Turn}
+use Rattle.rank.specs.Speech.{SaysWord, Speech}
 use Rattle.group.specs.declared.State.{State}
 use Rattle.group.specs.States.{rankAt, placeAt}
 
@@ -16,6 +18,11 @@ pub record Flies (s : State) (kind from to : ℕ) : Type 0 where
   pub kind-is : placeAt s place .kind ≡ kind
   pub from-is : placeAt s place .from ≡ from
   pub to-is : placeAt s place .to ≡ to
+
+-- It carries this word.
+pub record Carries (s : State) (kind from to word : ℕ) : Type 0 where
+  pub flies : Flies s kind from to
+  pub word-is : placeAt s (flies .place) .word ≡ word
 
 -- Rank p takes its turn, with a message of this kind from q, which leaves, or with none (kind 0).
 pub record Turns (anc : ℕ → ℕ) (n : ℕ) (s s′ : State) (p kind q : ℕ) (f g : Send) : Type 0 where
@@ -32,13 +39,26 @@ pub record Turns (anc : ℕ → ℕ) (n : ℕ) (s s′ : State) (p kind q : ℕ)
   pub was : (k b x : ℕ) → Flies s′ k b x → Flies s k b x ⊎ ((b ≡ p) × Says f g k x)
   pub joins : (k x : ℕ) → Says f g k x → Flies s′ k p x
 
+-- What its turn says, word for word: v is the word of the message taken, or the one that p enters with. Entry says who enters with which word.
+pub record Speaks (anc : ℕ → ℕ) (n : ℕ) (Entry : ℕ → ℕ → Type 0) (s s′ : State) (p kind q v : ℕ) (f g : Send) : Type 0 where
+  pub speech : Speech anc n p kind q v (Entry p v) (rankAt s p) (rankAt s′ p) f g
+  pub took : (kind ≡ 0 → ⊥) → Carries s kind q p v
+  -- below the sender of an ASK all are dead
+  pub asker : kind ≡ ask → (a : ℕ) → a < q → has (s .group .dead) a ≡ true
+  pub was : (k b x w : ℕ) → Carries s′ k b x w → Carries s k b x w ⊎ ((b ≡ p) × SaysWord f g k w x)
+
 -- The dead grow, perhaps, and no record changes; no message joins, and one between living ranks stays.
 pub record Fades (s s′ : State) : Type 0 where
   pub dead-stays : (k : ℕ) → has (s .group .dead) k ≡ true → has (s′ .group .dead) k ≡ true
   pub ranks-stay : (j : ℕ) → rankAt s′ j ≡ rankAt s j
   pub was : (k b x : ℕ) → Flies s′ k b x → Flies s k b x
+  pub was-word : (k b x w : ℕ) → Carries s′ k b x w → Carries s k b x w
   pub stays : (k b x : ℕ) → has (s .group .dead) b ≡ false → has (s .group .dead) x ≡ false → Flies s k b x → Flies s′ k b x
 
-pub data Move (anc : ℕ → ℕ) (n : ℕ) (s s′ : State) : Type 0 where
-  turns : (p kind q : ℕ) (f g : Send) → Turns anc n s s′ p kind q f g → Move anc n s s′
-  fades : Fades s s′ → Move anc n s s′
+pub data Move (anc : ℕ → ℕ) (n : ℕ) (Entry : ℕ → ℕ → Type 0) (s s′ : State) : Type 0 where
+  turns : (p kind q v : ℕ) (f g : Send) → Turns anc n s s′ p kind q f g → Speaks anc n Entry s s′ p kind q v f g → Move anc n Entry s s′
+  fades : Fades s s′ → Move anc n Entry s s′
+
+-- An event of kind 1: rank p, which is a, enters with the word v, which is b.
+abbrev pub Entry : ℕ → ℕ → ℕ → ℕ → ℕ → Type 0
+Entry kind a b p v = (kind ≡ 1) × (p ≡ a) × (v ≡ b)

@@ -7,3 +7,5 @@ pub mod Letters
 pub mod Knowing
 pub mod Settling
 pub mod Turning
+pub mod Uttering
+pub mod Speaking

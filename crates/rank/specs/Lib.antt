@@ -4,3 +4,4 @@ pub mod Sends
 pub mod Rules
 pub mod Order
 pub mod Turns
+pub mod Speech

@@ -20,8 +20,8 @@ use Rattle.group.specs.declared.State.{State}
 use Rattle.group.specs.States.{rankAt}
 use Rattle.group.specs.Moves.{Flies}
 use Rattle.agreement.specs.Progress.{Lives, Quiet, AllEntered, AllDeathsKnown, AllDecided}
+use Rattle.agreement.proofs.Living.{Truthful}
 use Rattle.agreement.proofs.Progress.Standing.{Held, Polled, Standing}
-use Rattle.agreement.proofs.Progress.Turning.{Truthful}
 
 module _ (anc : ℕ → ℕ) (n : ℕ) (small : n ≤ 64) (s : State) (inv : Standing anc n s) (ordered : (i : ℕ) → i < n → Ordered anc n i (rankAt s i)) (truth : Truthful n s)
     (quiet : Quiet s) (entered : AllEntered n s) (known : AllDeathsKnown n s) where

@@ -5,7 +5,6 @@ use mathlib.Core.Bool.{true}
 use mathlib.Core.Logic.{inl, inr}
 use Prim.Native.Nat.{ℕ}
 use Rattle.sets.specs.Sets.{has}
-use Rattle.sets.proofs.Laws.Bools.{clash, fails}
 use Rattle.tree.specs.Tree.{parent}
 use Rattle.rank.specs.declared.Rank.{Rank}
 use Rattle.rank.specs.Words.{gathering, waiting, decided, up, down, ask}
@@ -14,14 +13,12 @@ use Rattle.group.specs.declared.State.{State}
 use Rattle.group.specs.States.{rankAt}
 use Rattle.group.specs.Moves.{Flies, Fades}
 use Rattle.agreement.specs.Progress.{Lives}
+use Rattle.agreement.proofs.Living.{faded}
 use Rattle.agreement.proofs.Progress.Standing.{Early, New, NoneNew, Calm, Owes, owes-on, Held, InDebt, Polled, Standing}
 
 module _ (anc : ℕ → ℕ) (n : ℕ) (s s′ : State) (t : Fades s s′) (inv : Standing anc n s) where
-  lived : (x : ℕ) → Lives n s′ x → Lives n s x
-  lived x l = (l .0, fails (has (s .group .dead) x) (λ h. clash (has (s′ .group .dead) x) (t .dead-stays x h) (l .1)))
-
   was-new : (x : ℕ) → New anc n s′ x → New anc n s x
-  was-new x h = (lived x (h .0), subst (Early anc n x) (t .ranks-stay x) (h .1))
+  was-new x h = (faded t x (h .0), subst (Early anc n x) (t .ranks-stay x) (h .1))
 
   still-none : (c : ℕ) → NoneNew anc n s c → NoneNew anc n s′ c
   still-none c h x u w = h x u (was-new x w)
@@ -30,7 +27,7 @@ module _ (anc : ℕ → ℕ) (n : ℕ) (s s′ : State) (t : Fades s s′) (inv 
   still-calm c = (λ b l e. c .0 b l (subst (λ (r : Rank). r .phase ≡ decided) (t .ranks-stay b) e), λ b x h. c .1 b x (t .was down b x h))
 
   kept : (k b x : ℕ) → Lives n s′ b → Lives n s′ x → Flies s k b x → Flies s′ k b x
-  kept k b x lb lx h = t .stays k b x (lived b lb .1) (lived x lx .1) h
+  kept k b x lb lx h = t .stays k b x (faded t b lb .1) (faded t x lx .1) h
 
   still-held : (x a : ℕ) → Lives n s′ x → Lives n s′ a → Held anc n s x a → Held anc n s′ x a
   still-held x a lx la (inl h) = inl (kept up x a lx la h)
@@ -50,8 +47,8 @@ module _ (anc : ℕ → ℕ) (n : ℕ) (s s′ : State) (t : Fades s s′) (inv 
     waiting-old = λ p l e. still-none p (inv .waiting-old p l (subst (λ (r : Rank). r .phase ≡ waiting) (t .ranks-stay p) e));
     new-calm = λ x w. still-calm (inv .new-calm x (was-new x w));
     held = λ x a lx w e la.
-        still-held x a lx la (inv .held x a (lived x lx) (subst (λ (r : Rank). r .phase ≡ waiting) (t .ranks-stay x) w) (subst (λ (r : Rank). parent anc (r .marks) x ≡ a) (t .ranks-stay x) e) (lived a la));
+        still-held x a lx la (inv .held x a (faded t x lx) (subst (λ (r : Rank). r .phase ≡ waiting) (t .ranks-stay x) w) (subst (λ (r : Rank). parent anc (r .marks) x ≡ a) (t .ranks-stay x) e) (faded t a la));
     polled = λ a c la e z lc k.
         still-polled a c la lc
-        (inv .polled a c (lived a la) (subst (λ (r : Rank). r .phase ≡ gathering) (t .ranks-stay a) e) (subst (Root anc a) (t .ranks-stay a) z) (lived c lc) (subst (λ (r : Rank). Leads anc n a r c) (t .ranks-stay a) k));
+        (inv .polled a c (faded t a la) (subst (λ (r : Rank). r .phase ≡ gathering) (t .ranks-stay a) e) (subst (Root anc a) (t .ranks-stay a) z) (faded t c lc) (subst (λ (r : Rank). Leads anc n a r c) (t .ranks-stay a) k));
   }

@@ -19,8 +19,9 @@ use Rattle.group.specs.declared.State.{State}
 use Rattle.group.specs.States.{rankAt}
 use Rattle.group.specs.Moves.{Flies, Turns}
 use Rattle.agreement.specs.Progress.{Lives}
+use Rattle.agreement.proofs.Living.{Truthful, lived, own-lives, unmarked}
 use Rattle.agreement.proofs.Progress.Standing.{Calm, Owes, owes-on, Held, InDebt, Polled, Standing}
-use Rattle.agreement.proofs.Progress.Turning.{Truthful, lived, unmarked, own-lives, root-stays, calm-stays, only-root}
+use Rattle.agreement.proofs.Progress.Turning.{root-stays, calm-stays, only-root}
 
 module _ (anc : ℕ → ℕ) (tree : Ancestry anc) (chain : Chained anc) (n : ℕ) (small : n ≤ 64) (s s′ : State) (p kind q : ℕ) (f g : Send) (t : Turns anc n s s′ p kind q f g)
     (true′ : Truthful n s′) (inv : Standing anc n s) where
@@ -28,10 +29,10 @@ module _ (anc : ℕ → ℕ) (tree : Ancestry anc) (chain : Chained anc) (n : �
   Undecided = rankAt s′ p .phase ≡ decided → ⊥
 
   alive : (x : ℕ) → Lives n s′ x → Lives n s x
-  alive = lived anc tree chain n small s s′ p kind q f g t true′ inv
+  alive = lived t
 
   free : (x : ℕ) → Lives n s′ x → has (rankAt s′ p .marks) x ≡ false
-  free = unmarked anc tree chain n small s s′ p kind q f g t true′ inv
+  free = unmarked t true′
 
   rooted : Root anc p (rankAt s p) → Root anc p (rankAt s′ p)
   rooted = root-stays anc tree chain n small s s′ p kind q f g t true′ inv
@@ -208,7 +209,7 @@ module _ (anc : ℕ → ℕ) (tree : Ancestry anc) (chain : Chained anc) (n : �
   no-second-root a la d z c e = go (lt-or-le a p)
     where
       lp : Lives n s′ p
-      lp = own-lives anc tree chain n small s s′ p kind q f g t true′ inv
+      lp = own-lives t
 
       go : (a < p) ⊎ (p ≤ a) → ⊥
       go (inl l) = below-root a la l c e

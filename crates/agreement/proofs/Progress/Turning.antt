@@ -1,12 +1,12 @@
 -- A rank's turn keeps what the invariant says of new ranks. Nobody becomes new; a rank that settles has heard every child, and whoever
 -- lives under it stands under one of them. Over any ancestor sets with their chain law. Assumes nothing.
 use mathlib.Core.Path.{_≡_, sym, subst}
-use mathlib.Core.Bool.{true, false}
+use mathlib.Core.Bool.{true}
 use mathlib.Core.Logic.{_⊎_, inl, inr, ⊎-elim}
 use Prim.Native.Nat.{ℕ, _≤_, _<_}
 use native.Mathlib.Omega.{arith}
 use Rattle.sets.specs.Sets.{has}
-use Rattle.sets.proofs.Laws.Bools.{clash, fails, eq-or-ne}
+use Rattle.sets.proofs.Laws.Bools.{eq-or-ne}
 use Rattle.tree.specs.Relations.{Ancestry, Chained, Covered}
 use Rattle.tree.proofs.Laws.Parents.{no-parent, no-parent-all}
 use Rattle.tree.proofs.Laws.Children.{covered-under, covered-by-root}
@@ -17,32 +17,14 @@ use Rattle.rank.specs.Turns.{Root, Complete, Polls, Says}
 use Rattle.group.specs.declared.State.{State}
 use Rattle.group.specs.States.{rankAt}
 use Rattle.group.specs.Moves.{Flies, Turns}
-use Rattle.agreement.specs.Progress.{Lives}
+use Rattle.agreement.proofs.Living.{Truthful, lived, own-lives, unmarked, taken}
 use Rattle.agreement.proofs.Progress.Standing.{Early, not-early, New, NoneNew, Calm, Standing}
-
--- Every death that a rank has marked is one.
-abbrev pub Truthful : ℕ → State → Type 0
-Truthful n s = (i k : ℕ) → i < n → has (rankAt s i .marks) k ≡ true → has (s .group .dead) k ≡ true
 
 module _ (anc : ℕ → ℕ) (tree : Ancestry anc) (chain : Chained anc) (n : ℕ) (small : n ≤ 64) (s s′ : State) (p kind q : ℕ) (f g : Send) (t : Turns anc n s s′ p kind q f g)
     (true′ : Truthful n s′) (inv : Standing anc n s) where
-  pub lived : (x : ℕ) → Lives n s′ x → Lives n s x
-  lived x l = (l .0, subst (λ (w : ℕ). has w x ≡ false) (t .dead-stays) (l .1))
-
-  -- whoever lives is unmarked by the rank whose turn it is
-  pub unmarked : (x : ℕ) → Lives n s′ x → has (rankAt s′ p .marks) x ≡ false
-  unmarked x l = fails (has (rankAt s′ p .marks) x) (λ h. clash (has (s′ .group .dead) x) (true′ p x (t .own) h) (l .1))
-
-  pub own-lives : Lives n s′ p
-  own-lives = (t .own, subst (λ (w : ℕ). has w p ≡ false) (sym (t .dead-stays)) (t .lives))
-
   -- a rank without a parent never gets one
   pub root-stays : Root anc p (rankAt s p) → Root anc p (rankAt s′ p)
   root-stays e = no-parent anc (rankAt s′ p .marks) p (λ k l. t .turn .marks-grow k (no-parent-all anc (rankAt s p .marks) p (let o = t .own in omega arith) e k l))
-
-  -- the message that it took
-  pub taken : (k : ℕ) → 0 < k → kind ≡ k → Flies s k q p
-  taken k l e = subst (λ (j : ℕ). Flies s j q p) e (t .took (λ z. omega arith))
 
   -- ---- nobody becomes new
 
@@ -56,7 +38,7 @@ module _ (anc : ℕ → ℕ) (tree : Ancestry anc) (chain : Chained anc) (n : �
       go (inr (inr e)) = absurd (h .1 (e .1 .root))
 
   pub was-new : (x : ℕ) → New anc n s′ x → New anc n s x
-  was-new x h = (lived x (h .0), go (eq-or-ne x p))
+  was-new x h = (lived t x (h .0), go (eq-or-ne x p))
     where
       go : (x ≡ p) ⊎ (x ≡ p → ⊥) → Early anc n x (rankAt s x)
       go (inl e) = subst (λ (y : ℕ). Early anc n y (rankAt s y)) (sym e) (was-early (subst (λ (y : ℕ). Early anc n y (rankAt s′ y)) e (h .1)))
@@ -72,7 +54,7 @@ module _ (anc : ℕ → ℕ) (tree : Ancestry anc) (chain : Chained anc) (n : �
     where
       go : (has (rankAt s p .heard) x ≡ true) ⊎ ((kind ≡ up) × (q ≡ x)) → NoneNew anc n s′ x
       go (inl e) = still-none x (inv .heard-old p x (t .own) e)
-      go (inr e) = still-none x (inv .report-old x p (subst (λ (y : ℕ). Flies s up y p) (e .1) (taken up (omega arith) (e .0))))
+      go (inr e) = still-none x (inv .report-old x p (subst (λ (y : ℕ). Flies s up y p) (e .1) (taken t up (omega arith) (e .0))))
 
   pub heard-old′ : (b x : ℕ) → b < n → has (rankAt s′ b .heard) x ≡ true → NoneNew anc n s′ x
   heard-old′ b x l h = go (eq-or-ne b p)
@@ -84,7 +66,7 @@ module _ (anc : ℕ → ℕ) (tree : Ancestry anc) (chain : Chained anc) (n : �
   -- a rank that is not early, and has heard every child, has nobody new under it
   settled : (Early anc n p (rankAt s′ p) → ⊥) → Complete anc n p (rankAt s′ p) → NoneNew anc n s′ p
   settled late c x (inl e) w = late (subst (λ (y : ℕ). Early anc n y (rankAt s′ y)) e (w .1))
-  settled late c x (inr u) w = go (covered-under anc tree chain n (rankAt s′ p .marks) p x (unmarked p own-lives) (w .0 .0) (unmarked x (w .0)) u)
+  settled late c x (inr u) w = go (covered-under anc tree chain n (rankAt s′ p .marks) p x (unmarked t true′ p (own-lives t)) (w .0 .0) (unmarked t true′ x (w .0)) u)
     where
       go : Covered anc n (rankAt s′ p .marks) p x → ⊥
       go k = own-heard (k .child) (c (k .child) (k .isChild)) x (k .under) w
@@ -125,7 +107,7 @@ module _ (anc : ℕ → ℕ) (tree : Ancestry anc) (chain : Chained anc) (n : �
     where
       go : (rankAt s p .phase ≡ decided) ⊎ ((kind ≡ down) ⊎ (Root anc p (rankAt s′ p) × Complete anc n p (rankAt s′ p))) → Root anc p (rankAt s′ p) × Complete anc n p (rankAt s′ p)
       go (inl d) = absurd (c .0 p (t .own) d)
-      go (inr (inl k)) = absurd (c .1 q p (taken down (omega arith) k))
+      go (inr (inl k)) = absurd (c .1 q p (taken t down (omega arith) k))
       go (inr (inr h)) = h
 
   pub new-calm′ : (x : ℕ) → New anc n s′ x → Calm anc n s′
@@ -137,7 +119,7 @@ module _ (anc : ℕ → ℕ) (tree : Ancestry anc) (chain : Chained anc) (n : �
       covered : Root anc p (rankAt s′ p) → Complete anc n p (rankAt s′ p) → (x ≡ p → ⊥) → ⊥
       covered r h d =
           let o = t .own in
-          let k : Covered anc n (rankAt s′ p .marks) p x = covered-by-root anc tree n (rankAt s′ p .marks) p x (omega arith) r (unmarked p own-lives) (w .0 .0) (unmarked x (w .0)) d in
+          let k : Covered anc n (rankAt s′ p .marks) p x = covered-by-root anc tree n (rankAt s′ p .marks) p x (omega arith) r (unmarked t true′ p (own-lives t)) (w .0 .0) (unmarked t true′ x (w .0)) d in
           own-heard (k .child) (h (k .child) (k .isChild)) x (k .under) w
 
       stays : rankAt s′ p .phase ≡ decided → ⊥

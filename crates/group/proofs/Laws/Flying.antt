@@ -15,13 +15,14 @@ use Rattle.rank.specs.declared.Send.{Send}
 use Rattle.rank.specs.declared.Message.{Message}
 use Rattle.rank.specs.Sends.{letter, letters}
 use Rattle.rank.specs.Turns.{Says}
+use Rattle.rank.specs.Speech.{SaysWord}
 use Rattle.rank.proofs.Laws.Letters.{letter-is, length-letters, letter-at}
 use Rattle.group.specs.declared.State.{State}
 use Rattle.group.specs.declared.Plan.{Plan}
 use Rattle.group.specs.Net.{zeroMessage, padded, without}
 use Rattle.group.specs.States.{placeAt, flying}
 use Rattle.group.specs.Events.{posted, placed, applied}
-use Rattle.group.specs.Moves.{Flies}
+use Rattle.group.specs.Moves.{Flies, Carries}
 use Rattle.group.proofs.Laws.Net.{padded-in}
 use Rattle.group.proofs.Laws.Lists.{any-default}
 
@@ -98,33 +99,37 @@ module _ (P : Message → Type 0) where
           let c : i < length (letters me f) = subst (λ (x : ℕ). i < x) (sym (length-letters me f ∙ sym (length-listed (has (f .to)) 64))) b in
           record { place = i; inside = c; so = subst P (sym (any-default (letters me f) i zeroMessage (letter me f 0) c ∙ letter-at me f i ∙ ap (letter me f) e ∙ letter-is me f q)) h }
 
--- a message of this kind from b to x
+-- a message of this kind from b to x, and one with this word
 abbrev pub Named : ℕ → ℕ → ℕ → Message → Type 0
 Named k b x m = (m .kind ≡ k) × (m .from ≡ b) × (m .to ≡ x)
 
-module _ (k b x : ℕ) where
-  letters-said : (me : ℕ) (f : Send) → Among (Named k b x) (letters me f) → (b ≡ me) × (f .kind ≡ k) × (has (f .to) x ≡ true)
-  letters-said me f m = go (letters-among (Named k b x) me f m)
-    where
-      go : (q : ℕ) × (has (f .to) q ≡ true) × ((f .kind ≡ k) × (me ≡ b) × (q ≡ x)) → (b ≡ me) × (f .kind ≡ k) × (has (f .to) x ≡ true)
-      go (q, t, e) = (sym (e .1), e .0, subst (λ (y : ℕ). has (f .to) y ≡ true) (e .2) t)
+abbrev pub Worded : ℕ → ℕ → ℕ → ℕ → Message → Type 0
+Worded k b x w m = Named k b x m × (m .word ≡ w)
 
-  -- ---- the list after a plan
+-- ---- the list after a plan
+
+module _ (k b x w : ℕ) where
+  letters-said : (me : ℕ) (f : Send) → Among (Worded k b x w) (letters me f) → (b ≡ me) × (f .kind ≡ k) × (f .word ≡ w) × (has (f .to) x ≡ true)
+  letters-said me f m = go (letters-among (Worded k b x w) me f m)
+    where
+      go : (q : ℕ) × (has (f .to) q ≡ true) × (((f .kind ≡ k) × (me ≡ b) × (q ≡ x)) × (f .word ≡ w)) → (b ≡ me) × (f .kind ≡ k) × (f .word ≡ w) × (has (f .to) x ≡ true)
+      go (q, t, e) = (sym (e .0 .1), e .0 .0, e .1, subst (λ (y : ℕ). has (f .to) y ≡ true) (e .0 .2) t)
 
   -- what is left is of before, and what joined is one of the sends
-  pub posted-was : (l : List Message) (place me : ℕ) (p : Plan) → Among (Named k b x) (posted l place me p) → Among (Named k b x) l ⊎ ((b ≡ me) × Says (p .acted .first) (p .acted .second) k x)
+  pub posted-was : (l : List Message) (place me : ℕ) (p : Plan) → Among (Worded k b x w) (posted l place me p) → Among (Worded k b x w) l ⊎ ((b ≡ me) × SaysWord (p .acted .first) (p .acted .second) k w x)
   unfolding posted
-  posted-was l place me p m = ⊎-elim early (λ (t : Among (Named k b x) (letters me (p .acted .second))). let u = letters-said me (p .acted .second) t in inr (u .0, inr (u .1, u .2))) (among-cases (Named k b x) (cond (p .leaves) (without place l) l ++ letters me (p .acted .first)) (letters me (p .acted .second)) m)
+  posted-was l place me p m = ⊎-elim early (λ (t : Among (Worded k b x w) (letters me (p .acted .second))). let u = letters-said me (p .acted .second) t in inr (u .0, inr (u .1, u .2, u .3))) (among-cases (Worded k b x w) (cond (p .leaves) (without place l) l ++ letters me (p .acted .first)) (letters me (p .acted .second)) m)
     where
-      rest : (t : Bool) → Among (Named k b x) (cond t (without place l) l) → Among (Named k b x) l
-      rest true n = without-among (Named k b x) place l n
+      rest : (t : Bool) → Among (Worded k b x w) (cond t (without place l) l) → Among (Worded k b x w) l
+      rest true n = without-among (Worded k b x w) place l n
       rest false n = n
 
-      early : Among (Named k b x) (cond (p .leaves) (without place l) l ++ letters me (p .acted .first)) → Among (Named k b x) l ⊎ ((b ≡ me) × Says (p .acted .first) (p .acted .second) k x)
+      early : Among (Worded k b x w) (cond (p .leaves) (without place l) l ++ letters me (p .acted .first)) → Among (Worded k b x w) l ⊎ ((b ≡ me) × SaysWord (p .acted .first) (p .acted .second) k w x)
       early n =
-          ⊎-elim (λ (t : Among (Named k b x) (cond (p .leaves) (without place l) l)). inl (rest (p .leaves) t)) (λ (t : Among (Named k b x) (letters me (p .acted .first))). let u = letters-said me (p .acted .first) t in inr (u .0, inl (u .1, u .2)))
-          (among-cases (Named k b x) (cond (p .leaves) (without place l) l) (letters me (p .acted .first)) n)
+          ⊎-elim (λ (t : Among (Worded k b x w) (cond (p .leaves) (without place l) l)). inl (rest (p .leaves) t)) (λ (t : Among (Worded k b x w) (letters me (p .acted .first))). let u = letters-said me (p .acted .first) t in inr (u .0, inl (u .1, u .2, u .3)))
+          (among-cases (Worded k b x w) (cond (p .leaves) (without place l) l) (letters me (p .acted .first)) n)
 
+module _ (k b x : ℕ) where
   -- only the message that leaves is gone
   pub posted-stays : (l : List Message) (place me : ℕ) (p : Plan) → Among (Named k b x) l → Among (Named k b x) (posted l place me p) ⊎ ((p .leaves ≡ true) × Named k b x (getD l place zeroMessage))
   unfolding posted
@@ -151,6 +156,8 @@ module _ (s : State) (place me : ℕ) (p : Plan) (k b x : ℕ) where
       let t : Named k b x (getD (padded (posted (flying s) place me p)) (m .place) zeroMessage) = subst (Named k b x) (sym (padded-in (posted (flying s) place me p) (m .place) (m .inside))) (m .so) in
       record { place = m .place; listed = m .inside; kind-is = t .0; from-is = t .1; to-is = t .2 }
 
-  pub flies-applied : Flies (applied s place me p) k b x → Among (Named k b x) (posted (flying s) place me p)
+  pub carries-applied : (w : ℕ) → Carries (applied s place me p) k b x w → Among (Worded k b x w) (posted (flying s) place me p)
   unfolding applied placed placeAt
-  flies-applied m = record { place = m .place; inside = m .listed; so = subst (Named k b x) (padded-in (posted (flying s) place me p) (m .place) (m .listed)) (m .kind-is, m .from-is, m .to-is) }
+  carries-applied w m =
+      let n = m .flies in
+      record { place = n .place; inside = n .listed; so = subst (Worded k b x w) (padded-in (posted (flying s) place me p) (n .place) (n .listed)) ((n .kind-is, n .from-is, n .to-is), m .word-is) }

@@ -1,5 +1,5 @@
--- An accepted event on a state in order is a move: one living rank takes its turn, with a message taken or with none; or no record changes,
--- no message joins, and at most one with a dead end is gone. Over any ancestor sets. Assumes nothing.
+-- An accepted event on a state in order is a move: one living rank takes its turn, with a message taken or with none, and speaks word for
+-- word; or no record changes, no message joins, and at most one with a dead end is gone. Over any ancestor sets. Assumes nothing.
 use mathlib.Core.Path.{_≡_, refl, sym, ap, subst, _∙_}
 use mathlib.Core.Bool.{Bool, true, false, cond, not, _&&_, _||_}
 use mathlib.Core.Logic.{_⊎_, inl, inr, ⊎-elim}
@@ -17,8 +17,11 @@ use Rattle.rank.specs.declared.Rank.{Rank}
 use Rattle.rank.specs.declared.Acted.{Acted}
 use Rattle.rank.specs.Words.{outside, up, down, ask}
 use Rattle.rank.specs.Turns.{Says, Turn}
+use Rattle.rank.specs.Speech.{SaysWord, Speech}
 use Rattle.rank.proofs.Laws.Settling.{Turning, silence}
 use Rattle.rank.proofs.Laws.Turning.{enter-turn, up-turn, down-turn, ask-turn, notice-turn}
+use Rattle.rank.proofs.Laws.Uttering.{any-word}
+use Rattle.rank.proofs.Laws.Speaking.{Speaking, enter-speech, up-speech, down-speech, ask-speech, notice-speech}
 use Rattle.group.specs.declared.State.{State}
 use Rattle.group.specs.declared.Plan.{Plan}
 use Rattle.group.specs.declared.Stepped.{Stepped}
@@ -27,14 +30,14 @@ use Rattle.group.specs.States.{zeroRank, rankAt, rowAt, placeAt, flying}
 use Rattle.group.specs.Refusing.{namesRank, namesPlace, notOutside, isLiving, bothLive}
 use Rattle.group.specs.Events.{idle, delivered, posted, applied, carried, subjectOf, planOf, stepped}
 use Rattle.group.specs.Order.{Lawful, Seated, Facts, Orderly, event}
-use Rattle.group.specs.Moves.{Flies, Move, turns, fades}
+use Rattle.group.specs.Moves.{Flies, Carries, Move, turns, fades, Entry}
 use Rattle.group.proofs.Laws.Ordering.{orderly-facts}
 use Rattle.group.proofs.Laws.Planning.{deliver-dropped, deliver-up, deliver-down, deliver-ask, act-enters, act-delivers, act-notices, act-nothing}
 use Rattle.group.proofs.Laws.Stepping.{step-plan, clean-notice, subject-receives, subject-in}
 use Rattle.group.proofs.Laws.Acting.{asker-below}
 use Rattle.group.proofs.Laws.Preserving.{ok, named, ranks-kind, places-kind, listed-there, outcome, list-long}
 use Rattle.group.proofs.Laws.Knowing.{event-steps-on}
-use Rattle.group.proofs.Laws.Flying.{Among, Named, posted-was, posted-stays, posted-joins, applied-flies, flies-applied}
+use Rattle.group.proofs.Laws.Flying.{Among, Named, Worded, posted-was, posted-stays, posted-joins, applied-flies, carries-applied}
 
 -- the state after the plan of an event
 abbrev after : State → ℕ → ℕ → Plan → State
@@ -52,15 +55,21 @@ module _ (anc : ℕ → ℕ) (s : State) (f : Facts anc s) (kind a b : ℕ) (p :
   flies-among : (k c x : ℕ) → Flies s k c x → Among (Named k c x) (flying s)
   flies-among k c x m = record { place = m .place; inside = subst (λ (y : ℕ). m .place < y) (sym flying-long) (m .listed); so = subst (Named k c x) (sym (flying-at (m .place) (m .listed))) (m .kind-is, m .from-is, m .to-is) }
 
-  among-flies : (k c x : ℕ) → Among (Named k c x) (flying s) → Flies s k c x
-  among-flies k c x m =
+  among-carries : (k c x w : ℕ) → Among (Worded k c x w) (flying s) → Carries s k c x w
+  among-carries k c x w m =
       let h : m .place < s .group .count = subst (λ (y : ℕ). m .place < y) flying-long (m .inside) in
-      let t : Named k c x (placeAt s (m .place)) = subst (Named k c x) (flying-at (m .place) h) (m .so) in
-      record { place = m .place; listed = h; kind-is = t .0; from-is = t .1; to-is = t .2 }
+      let t : Worded k c x w (placeAt s (m .place)) = subst (Worded k c x w) (flying-at (m .place) h) (m .so) in
+      record { flies = record { place = m .place; listed = h; kind-is = t .0 .0; from-is = t .0 .1; to-is = t .0 .2 }; word-is = t .1 }
 
   -- a message afterwards was in flight before, or its rank sent it
+  carries-was : (k c x w : ℕ) → Carries (after s kind a p) k c x w → Carries s k c x w ⊎ ((c ≡ subjectOf s kind a) × SaysWord (p .acted .first) (p .acted .second) k w x)
+  carries-was k c x w m = ⊎-elim (λ (n : Among (Worded k c x w) (flying s)). inl (among-carries k c x w n)) (λ (n : (c ≡ subjectOf s kind a) × SaysWord (p .acted .first) (p .acted .second) k w x). inr n) (posted-was k c x w (flying s) a (subjectOf s kind a) p (carries-applied s a (subjectOf s kind a) p k c x w m))
+
   flies-was : (k c x : ℕ) → Flies (after s kind a p) k c x → Flies s k c x ⊎ ((c ≡ subjectOf s kind a) × Says (p .acted .first) (p .acted .second) k x)
-  flies-was k c x m = ⊎-elim (λ (n : Among (Named k c x) (flying s)). inl (among-flies k c x n)) (λ (n : (c ≡ subjectOf s kind a) × Says (p .acted .first) (p .acted .second) k x). inr n) (posted-was k c x (flying s) a (subjectOf s kind a) p (flies-applied s a (subjectOf s kind a) p k c x m))
+  flies-was k c x m = go (placeAt (after s kind a p) (m .place) .word) (record { flies = m; word-is = refl })
+    where
+      go : (w : ℕ) → Carries (after s kind a p) k c x w → Flies s k c x ⊎ ((c ≡ subjectOf s kind a) × Says (p .acted .first) (p .acted .second) k x)
+      go w n = ⊎-elim (λ (y : Carries s k c x w). inl (y .flies)) (λ (y : (c ≡ subjectOf s kind a) × SaysWord (p .acted .first) (p .acted .second) k w x). inr (y .0, any-word (p .acted .first) (p .acted .second) k w x (y .1))) (carries-was k c x w n)
 
   -- one of before is in flight afterwards, or the event takes it out
   flies-stays : (k c x : ℕ) → Flies s k c x → Flies (after s kind a p) k c x ⊎ ((namesPlace kind ≡ true) × Named k c x (placeAt s a))
@@ -93,40 +102,50 @@ module _ (anc : ℕ → ℕ) (s : State) (f : Facts anc s) (kind a b : ℕ) (p :
 
   -- ---- a turn, and a fading
 
-  turns-after : (word q : ℕ) → (kind ≡ 3 → ⊥) → has (s .group .dead) (subjectOf s kind a) ≡ false
-      → Turn anc (s .group .n) (subjectOf s kind a) word q (rankAt s (subjectOf s kind a)) (p .acted .rank) (p .acted .first) (p .acted .second)
-      → (namesPlace kind ≡ true → Named word q (subjectOf s kind a) (placeAt s a)) → ((word ≡ 0 → ⊥) → (namesPlace kind ≡ true) × (has (rankAt s (subjectOf s kind a) .marks) q ≡ false))
-      → Move anc (s .group .n) s (after s kind a p)
-  turns-after word q h l t m k = turns (subjectOf s kind a) word q (p .acted .first) (p .acted .second) (record {
+  -- w is what the rank does, both a turn and a speech
+  turns-after : (word q v : ℕ) → (kind ≡ 3 → ⊥) → has (s .group .dead) (subjectOf s kind a) ≡ false
+      → (w : Acted) → w ≡ p .acted → Turning anc (s .group .n) (subjectOf s kind a) word q (rankAt s (subjectOf s kind a)) w → Speaking anc (s .group .n) (subjectOf s kind a) word q v (Entry kind a b (subjectOf s kind a) v) (rankAt s (subjectOf s kind a)) w
+      → (namesPlace kind ≡ true → Worded word q (subjectOf s kind a) v (placeAt s a)) → ((word ≡ 0 → ⊥) → (namesPlace kind ≡ true) × (has (rankAt s (subjectOf s kind a) .marks) q ≡ false))
+      → Move anc (s .group .n) (Entry kind a b) s (after s kind a p)
+  turns-after word q v h l w o t u m k = turns (subjectOf s kind a) word q v (p .acted .first) (p .acted .second) (record {
     own = subject-in anc s f kind a;
     lives = l;
     dead-stays = dead-after ∙ cond-false (eqb kind 3) (add (s .group .dead) (subjectOf s kind a)) (s .group .dead) (ne-eqb kind 3 h);
     others = others-after;
-    turn = subst (λ (r : Rank). Turn anc (s .group .n) (subjectOf s kind a) word q (rankAt s (subjectOf s kind a)) r (p .acted .first) (p .acted .second)) (sym rank-after) t;
-    took = λ d. taken (k d .0);
+    turn = subst (λ (r : Rank). Turn anc (s .group .n) (subjectOf s kind a) word q (rankAt s (subjectOf s kind a)) r (p .acted .first) (p .acted .second)) (sym rank-after) (subst (Turning anc (s .group .n) (subjectOf s kind a) word q (rankAt s (subjectOf s kind a))) o t);
+    took = λ d. taken (k d .0) .flies;
     known = λ d. k d .1;
-    stays = λ j c x n. ⊎-elim (λ (y : Flies (after s kind a p) j c x). inl y) (λ (y : (namesPlace kind ≡ true) × Named j c x (placeAt s a)). inr (same j c x (m (y .0)) (y .1))) (flies-stays j c x n);
+    stays = λ j c x n. ⊎-elim (λ (y : Flies (after s kind a p) j c x). inl y) (λ (y : (namesPlace kind ≡ true) × Named j c x (placeAt s a)). inr (same j c x (m (y .0) .0) (y .1))) (flies-stays j c x n);
     was = flies-was;
     joins = flies-joins;
+  }) (record {
+    speech = subst (λ (r : Rank). Speech anc (s .group .n) (subjectOf s kind a) word q v (Entry kind a b (subjectOf s kind a) v) (rankAt s (subjectOf s kind a)) r (p .acted .first) (p .acted .second)) (sym rank-after) (subst (Speaking anc (s .group .n) (subjectOf s kind a) word q v (Entry kind a b (subjectOf s kind a) v) (rankAt s (subjectOf s kind a))) o u);
+    took = λ d. taken (k d .0);
+    asker = λ j c i. let y = k (λ o. omega arith) .0 in f .lawful a (listed-there anc s f kind a b p e z y) .ask-dead (m y .0 .0 ∙ j) c (subst (λ (o : ℕ). c < o) (sym (m y .0 .1)) i);
+    was = carries-was;
   })
     where
-      taken : namesPlace kind ≡ true → Flies s word q (subjectOf s kind a)
-      taken y = let n = m y in record { place = a; listed = listed-there anc s f kind a b p e z y; kind-is = n .0; from-is = n .1; to-is = n .2 }
+      taken : namesPlace kind ≡ true → Carries s word q (subjectOf s kind a) v
+      taken y = let n = m y .0 in record { flies = record { place = a; listed = listed-there anc s f kind a b p e z y; kind-is = n .0; from-is = n .1; to-is = n .2 }; word-is = m y .1 }
 
       same : (j c x : ℕ) → Named word q (subjectOf s kind a) (placeAt s a) → Named j c x (placeAt s a) → (j ≡ word) × (c ≡ q) × (x ≡ subjectOf s kind a)
       same j c x n y = (sym (y .0) ∙ n .0, sym (y .1) ∙ n .1, sym (y .2) ∙ n .2)
 
   fades-after : p .acted ≡ idle (rankAt s (subjectOf s kind a)) (rowAt s (subjectOf s kind a))
       → (namesPlace kind ≡ true → (has (s .group .dead) (placeAt s a .from) ≡ true) ⊎ (has (s .group .dead) (placeAt s a .to) ≡ true))
-      → Move anc (s .group .n) s (after s kind a p)
+      → Move anc (s .group .n) (Entry kind a b) s (after s kind a p)
   unfolding idle
   fades-after i d = fades (record {
     dead-stays = λ k h. subst (λ (w : ℕ). has w k ≡ true) (sym dead-after) (more k h (eqb kind 3));
     ranks-stay = λ j. ⊎-elim (λ (q : j ≡ subjectOf s kind a). subst (λ (y : ℕ). rankAt (after s kind a p) y ≡ rankAt s y) (sym q) (rank-after ∙ ap (λ (y : Acted). y .rank) i)) (others-after j) (eq-or-ne j (subjectOf s kind a));
-    was = λ k c x n. ⊎-elim (λ (y : Flies s k c x). y) (λ (y : (c ≡ subjectOf s kind a) × Says (p .acted .first) (p .acted .second) k x). absurd (silence k x (subst (λ (w : Acted). Says (w .first) (w .second) k x) i (y .1)))) (flies-was k c x n);
+    was = λ k c x n. ⊎-elim (λ (y : Flies s k c x). y) (λ (y : (c ≡ subjectOf s kind a) × Says (p .acted .first) (p .acted .second) k x). absurd (mute k x (y .1))) (flies-was k c x n);
+    was-word = λ k c x w n. ⊎-elim (λ (y : Carries s k c x w). y) (λ (y : (c ≡ subjectOf s kind a) × SaysWord (p .acted .first) (p .acted .second) k w x). absurd (mute k x (any-word (p .acted .first) (p .acted .second) k w x (y .1)))) (carries-was k c x w n);
     stays = λ k c x u v n. ⊎-elim (λ (y : Flies (after s kind a p) k c x). y) (λ (y : (namesPlace kind ≡ true) × Named k c x (placeAt s a)). absurd (gone k c x u v (y .1) (d (y .0)))) (flies-stays k c x n);
   })
     where
+      mute : (k x : ℕ) → Says (p .acted .first) (p .acted .second) k x → ⊥
+      mute k x y = silence k x (subst (λ (w : Acted). Says (w .first) (w .second) k x) i y)
+
       more : (k : ℕ) → has (s .group .dead) k ≡ true → (t : Bool) → has (cond t (add (s .group .dead) (subjectOf s kind a)) (s .group .dead)) k ≡ true
       more k h true = has-add-more (s .group .dead) (subjectOf s kind a) k h
       more k h false = h
@@ -137,6 +156,16 @@ module _ (anc : ℕ → ℕ) (s : State) (f : Facts anc s) (kind a b : ℕ) (p :
 
   -- ---- the kinds of events
 
+  -- the rank of an entry is the one that it names, and is outside
+  enters-named : kind ≡ 1 → subjectOf s kind a ≡ a
+  enters-named k = let t = ranks-kind anc s f kind a b p e z (inl k) in named anc s f kind a b p e z (t .0) (t .1) .0
+
+  enters-outside : kind ≡ 1 → rankAt s (subjectOf s kind a) .phase ≡ outside
+  unfolding notOutside
+  enters-outside k =
+      eqb-true (rankAt s (subjectOf s kind a) .phase) outside (passes (eqb (rankAt s (subjectOf s kind a) .phase) outside)
+      (λ h. clash (eqb kind 1 && not (eqb (rankAt s (subjectOf s kind a) .phase) outside)) (and-i (eqb kind 1) (not (eqb (rankAt s (subjectOf s kind a) .phase) outside)) (eq-eqb kind 1 k) (not-i (eqb (rankAt s (subjectOf s kind a) .phase) outside) h)) (ok anc s f kind a b p e z .clean .is-outside)))
+
   module _ (tree : Ancestry anc) where
     seat : Seated anc (s .group .n) (s .group .dead) (subjectOf s kind a) (rankAt s (subjectOf s kind a)) (rowAt s (subjectOf s kind a))
     seat = f .seated (subjectOf s kind a) (subject-in anc s f kind a)
@@ -146,30 +175,30 @@ module _ (anc : ℕ → ℕ) (s : State) (f : Facts anc s) (kind a b : ℕ) (p :
     named-lives r q = let x = named anc s f kind a b p e z r q in subst (λ (y : ℕ). has (s .group .dead) y ≡ false) (sym (x .0)) (x .2)
 
     -- one that takes no message, kind 1 or 4, is a turn without one
-    silent-turn : namesRank kind ≡ true → namesPlace kind ≡ false → (kind ≡ 3 → ⊥) → Turning anc (s .group .n) (subjectOf s kind a) 0 0 (rankAt s (subjectOf s kind a)) (p .acted) → Move anc (s .group .n) s (after s kind a p)
-    silent-turn r q h t = turns-after 0 0 h (named-lives r q) t (λ y. absurd (clash (namesPlace kind) y q)) (λ d. absurd (d refl))
+    silent-turn : (v : ℕ) → namesRank kind ≡ true → namesPlace kind ≡ false → (kind ≡ 3 → ⊥) → (w : Acted) → w ≡ p .acted → Turning anc (s .group .n) (subjectOf s kind a) 0 0 (rankAt s (subjectOf s kind a)) w → Speaking anc (s .group .n) (subjectOf s kind a) 0 0 v (Entry kind a b (subjectOf s kind a) v) (rankAt s (subjectOf s kind a)) w
+        → Move anc (s .group .n) (Entry kind a b) s (after s kind a p)
+    silent-turn v r q h w o t u = turns-after 0 0 v h (named-lives r q) w o t u (λ y. absurd (clash (namesPlace kind) y q)) (λ d. absurd (d refl))
 
-    enters-moves : kind ≡ 1 → Move anc (s .group .n) s (after s kind a p)
-    unfolding notOutside
+    enters-moves : kind ≡ 1 → Move anc (s .group .n) (Entry kind a b) s (after s kind a p)
     enters-moves k =
         let t = ranks-kind anc s f kind a b p e z (inl k) in
-        let o : rankAt s (subjectOf s kind a) .phase ≡ outside = eqb-true (rankAt s (subjectOf s kind a) .phase) outside (passes (eqb (rankAt s (subjectOf s kind a) .phase) outside) (λ h. clash (eqb kind 1 && not (eqb (rankAt s (subjectOf s kind a) .phase) outside)) (and-i (eqb kind 1) (not (eqb (rankAt s (subjectOf s kind a) .phase) outside)) (eq-eqb kind 1 k) (not-i (eqb (rankAt s (subjectOf s kind a) .phase) outside) h)) (ok anc s f kind a b p e z .clean .is-outside))) in
-        silent-turn (t .0) (t .1) (λ x. omega arith)
-        (subst (Turning anc (s .group .n) (subjectOf s kind a) 0 0 (rankAt s (subjectOf s kind a))) (act-enters anc (s .group .n) (s .group .dead) kind b (placeAt s a) (subjectOf s kind a) (rankAt s (subjectOf s kind a)) (rowAt s (subjectOf s kind a)) _ k refl ∙ sym (ok anc s f kind a b p e z .acted-is))
-        (enter-turn anc tree (s .group .n) (subjectOf s kind a) (f .size-high) (subject-in anc s f kind a) b (rankAt s (subjectOf s kind a)) (seat .ordered) o))
+        silent-turn b (t .0) (t .1) (λ x. omega arith) _ (act-enters anc (s .group .n) (s .group .dead) kind b (placeAt s a) (subjectOf s kind a) (rankAt s (subjectOf s kind a)) (rowAt s (subjectOf s kind a)) _ k refl ∙ sym (ok anc s f kind a b p e z .acted-is))
+        (enter-turn anc tree (s .group .n) (subjectOf s kind a) (f .size-high) (subject-in anc s f kind a) b (rankAt s (subjectOf s kind a)) (seat .ordered) (enters-outside k))
+        (enter-speech anc (s .group .n) (subjectOf s kind a) (f .size-high) (subject-in anc s f kind a) (Entry kind a b (subjectOf s kind a) b) (k, enters-named k, refl) b (rankAt s (subjectOf s kind a)) (seat .ordered) (enters-outside k))
 
-    notices-moves : kind ≡ 4 → Move anc (s .group .n) s (after s kind a p)
+    notices-moves : kind ≡ 4 → Move anc (s .group .n) (Entry kind a b) s (after s kind a p)
     unfolding isLiving
     notices-moves k =
         let t = ranks-kind anc s f kind a b p e z (inr (inr k)) in
         let d : has (s .group .dead) b ≡ true = passes (has (s .group .dead) b) (λ h. clash (eqb kind 4 && not (has (s .group .dead) b)) (and-i (eqb kind 4) (not (has (s .group .dead) b)) (eq-eqb kind 4 k) (not-i (has (s .group .dead) b) h)) (ok anc s f kind a b p e z .clean .told-dead)) in
         let o : b ≡ subjectOf s kind a → ⊥ = λ q. clash (has (s .group .dead) (subjectOf s kind a)) (subst (λ (x : ℕ). has (s .group .dead) x ≡ true) q d) (named-lives (t .0) (t .1)) in
-        silent-turn (t .0) (t .1) (λ x. omega arith)
-        (subst (Turning anc (s .group .n) (subjectOf s kind a) 0 0 (rankAt s (subjectOf s kind a))) (act-notices anc (s .group .n) (s .group .dead) kind b (placeAt s a) (subjectOf s kind a) (rankAt s (subjectOf s kind a)) (rowAt s (subjectOf s kind a)) _ (λ x. omega arith) (λ x. omega arith) k refl ∙ sym (ok anc s f kind a b p e z .acted-is))
-        (notice-turn anc tree (s .group .n) (subjectOf s kind a) (f .size-high) (subject-in anc s f kind a) b (rankAt s (subjectOf s kind a)) (seat .ordered) (clean-notice _ _ _ _ _ _ _ _ (ok anc s f kind a b p e z .clean) k) o))
+        let l : b < s .group .n = clean-notice _ _ _ _ _ _ _ _ (ok anc s f kind a b p e z .clean) k in
+        silent-turn 0 (t .0) (t .1) (λ x. omega arith) _ (act-notices anc (s .group .n) (s .group .dead) kind b (placeAt s a) (subjectOf s kind a) (rankAt s (subjectOf s kind a)) (rowAt s (subjectOf s kind a)) _ (λ x. omega arith) (λ x. omega arith) k refl ∙ sym (ok anc s f kind a b p e z .acted-is))
+        (notice-turn anc tree (s .group .n) (subjectOf s kind a) (f .size-high) (subject-in anc s f kind a) b (rankAt s (subjectOf s kind a)) (seat .ordered) l o)
+        (notice-speech anc (s .group .n) (subjectOf s kind a) (f .size-high) (subject-in anc s f kind a) (Entry kind a b (subjectOf s kind a) 0) 0 b (rankAt s (subjectOf s kind a)))
 
     -- a crash changes no record, and a message that is lost has a dead end
-    rest-fades : (kind ≡ 1 → ⊥) → (kind ≡ 2 → ⊥) → (kind ≡ 4 → ⊥) → Move anc (s .group .n) s (after s kind a p)
+    rest-fades : (kind ≡ 1 → ⊥) → (kind ≡ 2 → ⊥) → (kind ≡ 4 → ⊥) → Move anc (s .group .n) (Entry kind a b) s (after s kind a p)
     unfolding namesPlace bothLive
     rest-fades h i j =
         fades-after (ok anc s f kind a b p e z .acted-is ∙ sym (act-nothing anc (s .group .n) (s .group .dead) kind b (placeAt s a) (subjectOf s kind a) (rankAt s (subjectOf s kind a)) (rowAt s (subjectOf s kind a)) _ h i j refl))
@@ -197,7 +226,7 @@ module _ (anc : ℕ → ℕ) (s : State) (f : Facts anc s) (kind a b : ℕ) (p :
       acted-delivered = ok anc s f kind a b p e z .acted-is ∙ sym (act-delivers anc (s .group .n) (s .group .dead) kind b (placeAt s a) (subjectOf s kind a) (rankAt s (subjectOf s kind a)) (rowAt s (subjectOf s kind a)) _ (λ x. omega arith) k refl)
 
       -- to a dead rank, or from a sender that the receiver has marked, who is dead
-      dropped-fades : has (s .group .dead) (subjectOf s kind a) || has (rankAt s (subjectOf s kind a) .marks) (placeAt s a .from) ≡ true → Move anc (s .group .n) s (after s kind a p)
+      dropped-fades : has (s .group .dead) (subjectOf s kind a) || has (rankAt s (subjectOf s kind a) .marks) (placeAt s a .from) ≡ true → Move anc (s .group .n) (Entry kind a b) s (after s kind a p)
       dropped-fades t =
           fades-after (acted-delivered ∙ sym (deliver-dropped anc (s .group .n) (s .group .dead) (subjectOf s kind a) (placeAt s a) (rankAt s (subjectOf s kind a)) (rowAt s (subjectOf s kind a)) _ _ _ refl refl t refl))
           (λ x. ⊎-elim (λ (u : has (s .group .dead) (subjectOf s kind a) ≡ true). inr (subst (λ (y : ℕ). has (s .group .dead) y ≡ true) (sym receiver) u)) (λ (u : has (rankAt s (subjectOf s kind a) .marks) (placeAt s a .from) ≡ true). inl (seat .marks-dead (placeAt s a .from) u)) (or-cases (has (s .group .dead) (subjectOf s kind a)) (has (rankAt s (subjectOf s kind a) .marks) (placeAt s a .from)) t))
@@ -209,48 +238,60 @@ module _ (anc : ℕ → ℕ) (s : State) (f : Facts anc s) (kind a b : ℕ) (p :
         unmarked : has (rankAt s (subjectOf s kind a) .marks) (placeAt s a .from) ≡ false
         unmarked = or-neither (has (s .group .dead) (subjectOf s kind a)) (has (rankAt s (subjectOf s kind a) .marks) (placeAt s a .from)) t .1
 
-        taken-turn : (word : ℕ) → placeAt s a .kind ≡ word → Turning anc (s .group .n) (subjectOf s kind a) word (placeAt s a .from) (rankAt s (subjectOf s kind a)) (p .acted) → Move anc (s .group .n) s (after s kind a p)
-        taken-turn word w u = turns-after word (placeAt s a .from) (λ x. omega arith) living u (λ y. (w, refl, receiver)) (λ d. (places-kind anc s f kind a b p e z k, unmarked))
+        taken-turn : (word : ℕ) → placeAt s a .kind ≡ word → (w : Acted) → w ≡ p .acted → Turning anc (s .group .n) (subjectOf s kind a) word (placeAt s a .from) (rankAt s (subjectOf s kind a)) w → Speaking anc (s .group .n) (subjectOf s kind a) word (placeAt s a .from) (placeAt s a .word) (Entry kind a b (subjectOf s kind a) (placeAt s a .word)) (rankAt s (subjectOf s kind a)) w
+            → Move anc (s .group .n) (Entry kind a b) s (after s kind a p)
+        taken-turn word j w o u v = turns-after word (placeAt s a .from) (placeAt s a .word) (λ x. omega arith) living w o u v (λ y. ((j, refl, receiver), refl)) (λ d. (places-kind anc s f kind a b p e z k, unmarked))
 
-        up-moves : placeAt s a .kind ≡ up → Move anc (s .group .n) s (after s kind a p)
-        up-moves w = taken-turn up w
-            (subst (Turning anc (s .group .n) (subjectOf s kind a) up (placeAt s a .from) (rankAt s (subjectOf s kind a))) (deliver-up anc (s .group .n) (s .group .dead) (subjectOf s kind a) (placeAt s a) (rankAt s (subjectOf s kind a)) (rowAt s (subjectOf s kind a)) _ _ _ refl refl t w refl ∙ sym acted-delivered)
-            (up-turn anc tree (s .group .n) (subjectOf s kind a) (f .size-high) (subject-in anc s f kind a) (placeAt s a .from) (placeAt s a .word) (rankAt s (subjectOf s kind a)) (seat .ordered)))
+        up-moves : placeAt s a .kind ≡ up → Move anc (s .group .n) (Entry kind a b) s (after s kind a p)
+        up-moves w = taken-turn up w _ (deliver-up anc (s .group .n) (s .group .dead) (subjectOf s kind a) (placeAt s a) (rankAt s (subjectOf s kind a)) (rowAt s (subjectOf s kind a)) _ _ _ refl refl t w refl ∙ sym acted-delivered)
+            (up-turn anc tree (s .group .n) (subjectOf s kind a) (f .size-high) (subject-in anc s f kind a) (placeAt s a .from) (placeAt s a .word) (rankAt s (subjectOf s kind a)) (seat .ordered))
+            (up-speech anc (s .group .n) (subjectOf s kind a) (f .size-high) (subject-in anc s f kind a) (Entry kind a b (subjectOf s kind a) (placeAt s a .word)) (placeAt s a .from) (placeAt s a .word) (rankAt s (subjectOf s kind a)) (seat .ordered))
 
-        down-moves : placeAt s a .kind ≡ down → Move anc (s .group .n) s (after s kind a p)
-        down-moves w = taken-turn down w
-            (subst (Turning anc (s .group .n) (subjectOf s kind a) down (placeAt s a .from) (rankAt s (subjectOf s kind a))) (deliver-down anc (s .group .n) (s .group .dead) (subjectOf s kind a) (placeAt s a) (rankAt s (subjectOf s kind a)) (rowAt s (subjectOf s kind a)) _ _ _ refl refl t (λ x. omega arith) w refl ∙ sym acted-delivered)
-            (down-turn anc tree (s .group .n) (subjectOf s kind a) (f .size-high) (subject-in anc s f kind a) (placeAt s a .from) (placeAt s a .word) (rankAt s (subjectOf s kind a))))
+        down-moves : placeAt s a .kind ≡ down → Move anc (s .group .n) (Entry kind a b) s (after s kind a p)
+        down-moves w = taken-turn down w _ (deliver-down anc (s .group .n) (s .group .dead) (subjectOf s kind a) (placeAt s a) (rankAt s (subjectOf s kind a)) (rowAt s (subjectOf s kind a)) _ _ _ refl refl t (λ x. omega arith) w refl ∙ sym acted-delivered)
+            (down-turn anc tree (s .group .n) (subjectOf s kind a) (f .size-high) (subject-in anc s f kind a) (placeAt s a .from) (placeAt s a .word) (rankAt s (subjectOf s kind a)))
+            (down-speech anc (s .group .n) (subjectOf s kind a) (f .size-high) (subject-in anc s f kind a) (Entry kind a b (subjectOf s kind a) (placeAt s a .word)) (placeAt s a .from) (placeAt s a .word) (rankAt s (subjectOf s kind a)))
 
-        ask-moves : placeAt s a .kind ≡ ask → Move anc (s .group .n) s (after s kind a p)
-        ask-moves w = taken-turn ask w
-            (subst (Turning anc (s .group .n) (subjectOf s kind a) ask (placeAt s a .from) (rankAt s (subjectOf s kind a))) (deliver-ask anc (s .group .n) (s .group .dead) (subjectOf s kind a) (placeAt s a) (rankAt s (subjectOf s kind a)) (rowAt s (subjectOf s kind a)) _ _ _ refl refl t (λ x. omega arith) (λ x. omega arith) refl ∙ sym acted-delivered)
-            (ask-turn anc tree (s .group .n) (subjectOf s kind a) (f .size-high) (subject-in anc s f kind a) (placeAt s a .from) (rankAt s (subjectOf s kind a)) (seat .ordered)
-            (asker-below anc (s .group .n) (s .group .dead) (subjectOf s kind a) (f .size-high) (subject-in anc s f kind a) (placeAt s a) message receiver w living) unmarked))
+        ask-moves : placeAt s a .kind ≡ ask → Move anc (s .group .n) (Entry kind a b) s (after s kind a p)
+        ask-moves w =
+            let l : placeAt s a .from < subjectOf s kind a = asker-below anc (s .group .n) (s .group .dead) (subjectOf s kind a) (f .size-high) (subject-in anc s f kind a) (placeAt s a) message receiver w living in
+            taken-turn ask w _ (deliver-ask anc (s .group .n) (s .group .dead) (subjectOf s kind a) (placeAt s a) (rankAt s (subjectOf s kind a)) (rowAt s (subjectOf s kind a)) _ _ _ refl refl t (λ x. omega arith) (λ x. omega arith) refl ∙ sym acted-delivered)
+            (ask-turn anc tree (s .group .n) (subjectOf s kind a) (f .size-high) (subject-in anc s f kind a) (placeAt s a .from) (rankAt s (subjectOf s kind a)) (seat .ordered) l unmarked)
+            (ask-speech anc (s .group .n) (subjectOf s kind a) (f .size-high) (subject-in anc s f kind a) (Entry kind a b (subjectOf s kind a) (placeAt s a .word)) (placeAt s a .from) (placeAt s a .word) (rankAt s (subjectOf s kind a)) l)
 
-        taken-moves : Move anc (s .group .n) s (after s kind a p)
+        taken-moves : Move anc (s .group .n) (Entry kind a b) s (after s kind a p)
         taken-moves = ⊎-elim up-moves (λ (x : placeAt s a .kind ≡ up → ⊥). ⊎-elim down-moves (λ (y : placeAt s a .kind ≡ down → ⊥). ask-moves (third (placeAt s a .kind) (message .kind-low) (message .kind-high) x y)) (eq-or-ne (placeAt s a .kind) down)) (eq-or-ne (placeAt s a .kind) up)
           where
             third : (w : ℕ) → up ≤ w → w ≤ ask → (w ≡ up → ⊥) → (w ≡ down → ⊥) → w ≡ ask
             third w l h x y = omega arith
 
-      delivers-moves : Move anc (s .group .n) s (after s kind a p)
+      delivers-moves : Move anc (s .group .n) (Entry kind a b) s (after s kind a p)
       delivers-moves = ⊎-elim dropped-fades taken-moves (passes-or-fails (has (s .group .dead) (subjectOf s kind a) || has (rankAt s (subjectOf s kind a) .marks) (placeAt s a .from)))
 
-    plan-moves : Move anc (s .group .n) s (after s kind a p)
+    plan-moves : Move anc (s .group .n) (Entry kind a b) s (after s kind a p)
     plan-moves = ⊎-elim enters-moves (λ (x : kind ≡ 1 → ⊥). ⊎-elim delivers-moves (λ (y : kind ≡ 2 → ⊥). ⊎-elim notices-moves (rest-fades x y) (eq-or-ne kind 4)) (eq-or-ne kind 2)) (eq-or-ne kind 1)
 
 -- ---- the theorem
+
+-- an accepted event on a state in order is an accepted step
+event-accepted : (anc : ℕ → ℕ) (s : State) (kind a b : ℕ) → Orderly anc s → event anc s kind a b .answer ≡ 0 → stepped anc s kind a b .answer ≡ 0
+event-accepted anc s kind a b o z = sym (ap (λ (x : Stepped). x .answer) (event-steps-on anc s kind a b o)) ∙ z
 
 -- an accepted step carries its plan out
 step-applied : (anc : ℕ → ℕ) (s : State) (kind a b : ℕ) → stepped anc s kind a b .answer ≡ 0 → stepped anc s kind a b .state ≡ after s kind a (planOf anc s kind a b)
 unfolding stepped carried
 step-applied anc s kind a b z = rw (eq-eqb (planOf anc s kind a b .answer) 0 (step-plan anc s kind a b z))
 
--- An accepted event on a state in order is a move.
-pub event-moves : (anc : ℕ → ℕ) → Ancestry anc → (s : State) (kind a b : ℕ) → Orderly anc s → event anc s kind a b .answer ≡ 0 → Move anc (s .group .n) s (event anc s kind a b .state)
+-- An accepted event on a state in order is a move; only kind 1 enters a rank, and that one with the word of the event.
+pub event-moves : (anc : ℕ → ℕ) → Ancestry anc → (s : State) (kind a b : ℕ) → Orderly anc s → event anc s kind a b .answer ≡ 0 → Move anc (s .group .n) (Entry kind a b) s (event anc s kind a b .state)
 event-moves anc tree s kind a b o z =
-    let steps : event anc s kind a b ≡ stepped anc s kind a b = event-steps-on anc s kind a b o in
-    let y : stepped anc s kind a b .answer ≡ 0 = sym (ap (λ (x : Stepped). x .answer) steps) ∙ z in
-    subst (Move anc (s .group .n) s) (sym (ap (λ (x : Stepped). x .state) steps ∙ step-applied anc s kind a b y))
+    let y = event-accepted anc s kind a b o z in
+    subst (Move anc (s .group .n) (Entry kind a b) s) (sym (ap (λ (x : Stepped). x .state) (event-steps-on anc s kind a b o) ∙ step-applied anc s kind a b y))
     (plan-moves anc s (orderly-facts anc s o) kind a b (planOf anc s kind a b) refl (step-plan anc s kind a b y) tree)
+
+-- A rank that enters was outside.
+pub enters-from-outside : (anc : ℕ → ℕ) (s : State) (a b : ℕ) → Orderly anc s → event anc s 1 a b .answer ≡ 0 → rankAt s a .phase ≡ outside
+enters-from-outside anc s a b o z =
+    let f = orderly-facts anc s o in
+    let y = step-plan anc s 1 a b (event-accepted anc s 1 a b o z) in
+    subst (λ (x : ℕ). rankAt s x .phase ≡ outside) (enters-named anc s f 1 a b (planOf anc s 1 a b) refl y refl) (enters-outside anc s f 1 a b (planOf anc s 1 a b) refl y refl)

@@ -16,7 +16,7 @@ use Rattle.tree.proofs.Laws.Parents.{parent-lt, no-parent, no-parent-all, has-p
 use Rattle.tree.proofs.Laws.Children.{child-o, child-gt}
 use Rattle.rank.specs.declared.Rank.{Rank}
 use Rattle.rank.specs.declared.Said.{Said}
-use Rattle.rank.specs.Words.{outside, gathering, waiting, decided}
+use Rattle.rank.specs.Words.{outside, gathering, waiting, decided, allBits}
 use Rattle.rank.specs.Records.{becoming, combining, concluding, owing, parentOf, childrenOf, awaiting, freshRank, hearing, viewing}
 use Rattle.rank.specs.Sends.{silent, reports, tells, asks}
 use Rattle.rank.specs.Rules.{saying, deciding, settled, done, settling, entering, noting, raised, takingUp, lowered, takingDown, asked, takingAsk, renewing, regathering, inheriting, bereaved, noticing}
@@ -273,6 +273,14 @@ fresh-outside anc n me = refl
 pub fresh-heard : (anc : ℕ → ℕ) (n me : ℕ) → freshRank anc n me .heard ≡ 0
 unfolding freshRank
 fresh-heard anc n me = refl
+
+pub fresh-owed : (anc : ℕ → ℕ) (n me : ℕ) → freshRank anc n me .owed ≡ 0
+unfolding freshRank
+fresh-owed anc n me = refl
+
+pub fresh-word : (anc : ℕ → ℕ) (n me : ℕ) → freshRank anc n me .word ≡ allBits
+unfolding freshRank
+fresh-word anc n me = refl
 
 -- whom a rank in order awaits is a child not heard, and one that waits has a parent
 pub awaited-child : (anc : ℕ → ℕ) (n me : ℕ) (r : Rank) → Ordered anc n me r → (c : ℕ) → has (r .awaited) c ≡ true → (has (children anc n (r .marks) me) c ≡ true) × (has (r .heard) c ≡ false)

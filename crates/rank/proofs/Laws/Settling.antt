@@ -109,7 +109,7 @@ module _ (anc : ℕ → ℕ) (n me : ℕ) where
   -- ---- settle
 
   -- who awaits nobody has heard every child
-  complete : (r : Rank) → r .awaited ≡ awaiting anc n me (r .marks) (r .heard) → r .awaited ≡ 0 → Complete anc n me r
+  pub complete : (r : Rank) → r .awaited ≡ awaiting anc n me (r .marks) (r .heard) → r .awaited ≡ 0 → Complete anc n me r
   unfolding awaiting
   complete r w a c k = minus-not (children anc n (r .marks) me) (r .heard) c (ap (λ (s : ℕ). has s c) (sym w ∙ a) ∙ has-zero c) k
 

@@ -27,7 +27,7 @@ use Rattle.rank.proofs.Laws.Settling.{Turning, first-says, only-self, t
 
 module _ (anc : ℕ → ℕ) (n me : ℕ) where
   -- what an ASK of another agreement does, by its cases
-  overheard-by : (P : Said → Type 0) (r v : Rank)
+  pub overheard-by : (P : Said → Type 0) (r v : Rank)
       → (r .phase ≡ waiting → P (saying v (reports v (parentOf anc me v))))
       → ((r .phase ≡ waiting → parentOf anc me r ≡ parentOf anc me v) → P (saying v silent))
       → P (overheard anc n me r v)

@@ -1,0 +1,115 @@
+-- Every move keeps the invariant of the words, and it holds in every reached state, of the words that the ranks entered in the run. Over any
+-- ancestor sets with their chain law. Assumes nothing.
+use mathlib.Core.Path.{_≡_, refl, sym, ap, subst, _∙_}
+use mathlib.Core.Bool.{Bool, true, false, cond, _&&_}
+use mathlib.Core.Logic.{_⊎_, inl, inr, ⊎-elim}
+use Prim.Native.Nat.{ℕ, _≤_, _<_}
+use native.Mathlib.Omega.{arith}
+use lib.Dec.{eqb}
+use borrow.Author.Tests.{eqb-true, eq-eqb}
+use Rattle.sets.specs.Sets.{has}
+use Rattle.sets.proofs.Laws.Bools.{clash, passes-or-fails, eq-or-ne, and-i, and-l, and-r, cond-true, cond-false}
+use Rattle.sets.proofs.Laws.Members.{has-zero}
+use Rattle.tree.specs.Relations.{Ancestry, Chained}
+use Rattle.rank.specs.declared.Rank.{Rank}
+use Rattle.rank.specs.Words.{outside}
+use Rattle.rank.specs.Speech.{Enters, Hears, Keeps}
+use Rattle.group.specs.declared.State.{State}
+use Rattle.group.specs.States.{rankAt}
+use Rattle.group.specs.Order.{event}
+use Rattle.group.specs.Starting.{freshState, started}
+use Rattle.group.specs.Reaching.{Reaches, begun, next}
+use Rattle.group.specs.Moves.{Move, turns, fades, Entry}
+use Rattle.group.proofs.Laws.Starting.{started-fresh}
+use Rattle.group.proofs.Laws.Following.{enters-from-outside}
+use Rattle.group.proofs.Demands.{reached-small, reached-orderly}
+use Rattle.agreement.specs.Agreement.{isEntry, hasEntered, wordOf}
+use Rattle.agreement.proofs.Living.{Truthful}
+use Rattle.agreement.proofs.Running.{quiet, all-outside, all-ones, none-heard, reached-truthful, reached-moves}
+use Rattle.agreement.proofs.Coverage.Covering.{Entered, Own, Covering}
+use Rattle.agreement.proofs.Coverage.Words.{andOf-none}
+use Rattle.agreement.proofs.Coverage.Turning.{turn-covers}
+use Rattle.agreement.proofs.Coverage.Fading.{fades-cover}
+
+-- ---- every move
+
+module _ (anc : ℕ → ℕ) (n : ℕ) (Entry : ℕ → ℕ → Type 0) (s s′ : State) where
+  -- a rank that has entered had entered, or enters with this move
+  pub was-entered : Move anc n Entry s s′ → (i : ℕ) → Entered n s′ i → Entered n s i ⊎ ((v : ℕ) × Entry i v)
+  was-entered (fades t) i e = inl (e .0, subst (λ (r : Rank). r .phase ≡ outside → ⊥) (t .ranks-stay i) (e .1))
+  was-entered (turns p kind q v f g t u) i e = go (eq-or-ne i p)
+    where
+      own : i ≡ p → Enters (Entry p v) v (rankAt s p) (rankAt s′ p) ⊎ (Hears kind q v (rankAt s p) (rankAt s′ p) ⊎ Keeps (rankAt s p) (rankAt s′ p)) → Entered n s i ⊎ ((w : ℕ) × Entry i w)
+      own z (inl h) = inr (v, subst (λ (j : ℕ). Entry j v) (sym z) (h .entry))
+      own z (inr (inl h)) = inl (e .0, λ o. e .1 (subst (λ (j : ℕ). rankAt s′ j .phase ≡ outside) (sym z) (h .stays-outside (subst (λ (j : ℕ). rankAt s j .phase ≡ outside) z o))))
+      own z (inr (inr h)) = inl (e .0, λ o. e .1 (subst (λ (j : ℕ). rankAt s′ j .phase ≡ outside) (sym z) (h .stays-outside (subst (λ (j : ℕ). rankAt s j .phase ≡ outside) z o))))
+
+      go : (i ≡ p) ⊎ (i ≡ p → ⊥) → Entered n s i ⊎ ((w : ℕ) × Entry i w)
+      go (inl z) = own z (u .speech .word-from)
+      go (inr d) = inl (e .0, subst (λ (r : Rank). r .phase ≡ outside → ⊥) (t .others i d) (e .1))
+
+-- The words of ranks that had entered stay, and a rank that enters has its word.
+pub a-move-covers : (anc : ℕ → ℕ) → Ancestry anc → Chained anc → (n : ℕ) → n ≤ 64 → (Entry : ℕ → ℕ → Type 0) (s s′ : State) → Truthful n s′ → (words words′ : ℕ → ℕ)
+    → ((p v : ℕ) → Entry p v → words′ p ≡ v) → ((i : ℕ) → Entered n s i → words′ i ≡ words i) → Covering anc n words s → Move anc n Entry s s′ → Covering anc n words′ s′
+a-move-covers anc tree chain n small Entry s s′ true′ words words′ votes keeps inv (turns p kind q v f g t u) = turn-covers anc tree chain n small Entry s s′ p kind q v f g t u true′ words words′ (votes p v) keeps inv
+a-move-covers anc tree chain n small Entry s s′ true′ words words′ votes keeps inv (fades t) = fades-cover anc n s s′ t words words′ keeps inv
+
+-- ---- a fresh group
+
+module _ (anc : ℕ → ℕ) (n : ℕ) (small : n ≤ 64) (words : ℕ → ℕ) where
+  nobody : (p : ℕ) → p < n → (x : ℕ) → Own anc n (freshState anc n) p x → ⊥
+  nobody p l x (inl h) = h .1 (all-outside anc n small p l)
+  nobody p l x (inr (lx, inl (c, h, k))) = none-heard anc n small p c l h
+  nobody p l x (inr (lx, inr (h, k))) = omega (arith, all-outside anc n small p l)
+
+  fresh-covers : Covering anc n words (freshState anc n)
+  fresh-covers = record {
+    own-word = λ p l. record { members = 0; entered = λ i h. absurd (clash (has 0 i) h (has-zero i)); contains = λ i h. absurd (nobody p l i h); is-and = all-ones anc n small p l ∙ sym (andOf-none words n) };
+    reports = λ q b w h. absurd (quiet anc n small _ q b (h .flies));
+    results = λ p l e. absurd (omega (arith, all-outside anc n small p l));
+    answers = λ b x w h. absurd (quiet anc n small _ b x (h .flies));
+  }
+
+-- ---- the words of a run
+
+module _ (anc : ℕ → ℕ) (n : ℕ) (s : State) (kind a b : ℕ) (run : Reaches anc n s) (z : event anc s kind a b .answer ≡ 0) where
+  -- the word of the rank that enters
+  votes-word : (p v : ℕ) → Entry kind a b p v → wordOf anc n (event anc s kind a b .state) (next s kind a b run z) p ≡ v
+  unfolding wordOf isEntry
+  votes-word p v (k, e, w) = cond-true (eqb kind 1 && eqb a p) b (wordOf anc n s run p) (and-i (eqb kind 1) (eqb a p) (eq-eqb kind 1 k) (eq-eqb a p (sym e))) ∙ sym w
+
+  -- any other's stays
+  word-stays : (i : ℕ) → Entered n s i → wordOf anc n (event anc s kind a b .state) (next s kind a b run z) i ≡ wordOf anc n s run i
+  unfolding wordOf isEntry
+  word-stays i e = cond-false (eqb kind 1 && eqb a i) b (wordOf anc n s run i) (⊎-elim (λ (t : eqb kind 1 && eqb a i ≡ true). absurd (again t)) (λ (t : eqb kind 1 && eqb a i ≡ false). t) (passes-or-fails (eqb kind 1 && eqb a i)))
+    where
+      again : eqb kind 1 && eqb a i ≡ true → ⊥
+      again t =
+          let k : kind ≡ 1 = eqb-true kind 1 (and-l (eqb kind 1) (eqb a i) t) in
+          let y : a ≡ i = eqb-true a i (and-r (eqb kind 1) (eqb a i) t) in
+          e .1 (subst (λ (j : ℕ). rankAt s j .phase ≡ outside) y (enters-from-outside anc s a b (reached-orderly anc n s run) (subst (λ (j : ℕ). event anc s j a b .answer ≡ 0) k z)))
+
+  entry-counts : (i : ℕ) → Entered n s i ⊎ ((v : ℕ) × Entry kind a b i v) → (Entered n s i → hasEntered anc n s run i ≡ true) → hasEntered anc n (event anc s kind a b .state) (next s kind a b run z) i ≡ true
+  unfolding hasEntered isEntry
+  entry-counts i (inl e) before = ap (λ (t : Bool). cond (eqb kind 1 && eqb a i) true t) (before e) ∙ same (eqb kind 1 && eqb a i)
+    where
+      same : (t : Bool) → cond t true true ≡ true
+      same true = refl
+      same false = refl
+  entry-counts i (inr (v, (k, e, w))) before = cond-true (eqb kind 1 && eqb a i) true (hasEntered anc n s run i) (and-i (eqb kind 1) (eqb a i) (eq-eqb kind 1 k) (eq-eqb a i (sym e)))
+
+-- A rank that is not outside has entered in the run.
+pub entered-in-the-run : (anc : ℕ → ℕ) → Ancestry anc → (n : ℕ) (s : State) (run : Reaches anc n s) (i : ℕ) → Entered n s i → hasEntered anc n s run i ≡ true
+entered-in-the-run anc tree n s (begun z) i e = absurd (e .1 (subst (λ (x : State). rankAt x i .phase ≡ outside) (sym (started-fresh anc n z .1)) (all-outside anc n (reached-small anc n (started anc n .state) (begun z) .1) i (e .0))))
+entered-in-the-run anc tree n s (next s′ kind a b run z) i e =
+    entry-counts anc n s′ kind a b run z i (was-entered anc n (Entry kind a b) s′ (event anc s′ kind a b .state) (reached-moves anc tree n s′ kind a b run z) i e) (λ h. entered-in-the-run anc tree n s′ run i h)
+
+pub reached-covers : (anc : ℕ → ℕ) → Ancestry anc → Chained anc → (n : ℕ) (s : State) (run : Reaches anc n s) → Covering anc n (wordOf anc n s run) s
+reached-covers anc tree chain n s (begun z) =
+    subst (Covering anc n (wordOf anc n (started anc n .state) (begun z))) (sym (started-fresh anc n z .1))
+    (fresh-covers anc n (reached-small anc n (started anc n .state) (begun z) .1) (wordOf anc n (started anc n .state) (begun z)))
+reached-covers anc tree chain n s (next s′ kind a b run z) =
+    a-move-covers anc tree chain n (reached-small anc n s′ run .1) (Entry kind a b) s′ (event anc s′ kind a b .state) (reached-truthful anc n (event anc s′ kind a b .state) (next s′ kind a b run z))
+    (wordOf anc n s′ run) (wordOf anc n (event anc s′ kind a b .state) (next s′ kind a b run z))
+    (votes-word anc n s′ kind a b run z) (word-stays anc n s′ kind a b run z)
+    (reached-covers anc tree chain n s′ run) (reached-moves anc tree n s′ kind a b run z)

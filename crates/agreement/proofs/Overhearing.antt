@@ -1,0 +1,77 @@
+-- An ASK of another agreement that is overheard is a move like any other, in which nobody enters: it keeps all three invariants. Over any
+-- ancestor sets with their chain law. Assumes nothing.
+use mathlib.Core.Path.{_≡_, refl, sym, subst}
+use mathlib.Core.Logic.{_⊎_, inl, inr}
+use Prim.Native.Nat.{ℕ, _≤_}
+use native.Mathlib.Omega.{arith}
+use Rattle.tree.specs.Relations.{Ancestry, Chained}
+use Rattle.rank.specs.declared.Rank.{Rank}
+use Rattle.rank.specs.declared.Send.{Send}
+use Rattle.rank.specs.Turns.{Says, Turn, overhearing}
+use Rattle.rank.specs.Speech.{SaysWord, Speech}
+use Rattle.rank.proofs.Laws.Turning.{overhear-turn}
+use Rattle.rank.proofs.Laws.Uttering.{some-word, any-word}
+use Rattle.rank.proofs.Laws.Speaking.{overhear-speech}
+use Rattle.group.specs.declared.State.{State}
+use Rattle.group.specs.States.{rankAt, placeAt}
+use Rattle.group.specs.Moves.{Flies, Carries, Turns, Move, turns}
+use Rattle.agreement.specs.Overhearing.{Overhears}
+use Rattle.agreement.proofs.Living.{Truthful}
+use Rattle.agreement.proofs.Progress.Standing.{Standing}
+use Rattle.agreement.proofs.Progress.Moving.{a-move-keeps}
+use Rattle.agreement.proofs.Concord.Accord.{Accord}
+use Rattle.agreement.proofs.Concord.Reaching.{a-move-agrees}
+use Rattle.agreement.proofs.Coverage.Covering.{Covering}
+use Rattle.agreement.proofs.Coverage.Reaching.{a-move-covers}
+
+-- nobody enters
+abbrev pub NoEntry : ℕ → ℕ → Type 0
+NoEntry p v = ⊥
+
+-- a message in flight carries some word
+carried : (s : State) (k b x : ℕ) → (h : Flies s k b x) → Carries s k b x (placeAt s (h .place) .word)
+carried s k b x h = record { flies = h; word-is = refl }
+
+module _ (anc : ℕ → ℕ) (tree : Ancestry anc) (n : ℕ) (small : n ≤ 64) (s s′ : State) (p q : ℕ) (o : Overhears anc n s s′ p q) where
+  abbrev f : Send
+  f = overhearing anc n p q (rankAt s p) .first
+
+  abbrev g : Send
+  g = overhearing anc n p q (rankAt s p) .second
+
+  turn : Turns anc n s s′ p 0 0 f g
+  turn = record {
+    own = o .own;
+    lives = o .lives;
+    dead-stays = o .dead-stays;
+    others = o .others;
+    turn = subst (λ (r : Rank). Turn anc n p 0 0 (rankAt s p) r f g) (sym (o .rank-is)) (overhear-turn anc tree n p small (o .own) q (rankAt s p) (o .ordered) (o .lower) (o .free));
+    took = λ h. absurd (h refl);
+    known = λ h. absurd (h refl);
+    stays = λ k b x h. inl (o .stays k b x (placeAt s (h .place) .word) (carried s k b x h) .flies);
+    was = λ k b x h. go k b x (placeAt s′ (h .place) .word) (o .was k b x (placeAt s′ (h .place) .word) (carried s′ k b x h));
+    joins = λ k x h. let w = some-word f g k x h in o .joins k x (w .0) (w .1) .flies;
+  }
+    where
+      go : (k b x w : ℕ) → Carries s k b x w ⊎ ((b ≡ p) × SaysWord f g k w x) → Flies s k b x ⊎ ((b ≡ p) × Says f g k x)
+      go k b x w (inl h) = inl (h .flies)
+      go k b x w (inr h) = inr (h .0, any-word f g k w x (h .1))
+
+  pub overhears-moves : Move anc n NoEntry s s′
+  overhears-moves = turns p 0 0 0 f g turn (record {
+    speech = subst (λ (r : Rank). Speech anc n p 0 0 0 (NoEntry p 0) (rankAt s p) r f g) (sym (o .rank-is)) (overhear-speech anc n p small (o .own) (NoEntry p 0) 0 q (rankAt s p) (o .lower) (o .free));
+    took = λ h. absurd (h refl);
+    asker = λ h. absurd (omega arith);
+    was = o .was;
+  })
+
+-- It keeps all three invariants, with the words as they were entered.
+module _ (anc : ℕ → ℕ) (tree : Ancestry anc) (chain : Chained anc) (n : ℕ) (small : n ≤ 64) (s s′ : State) (true′ : Truthful n s′) (p q : ℕ) (o : Overhears anc n s s′ p q) where
+  pub overhearing-stands : Standing anc n s → Standing anc n s′
+  overhearing-stands inv = a-move-keeps anc tree chain n small s s′ true′ inv NoEntry (overhears-moves anc tree n small s s′ p q o)
+
+  pub overhearing-agrees : Accord anc n s → Accord anc n s′
+  overhearing-agrees inv = a-move-agrees anc tree chain n small NoEntry s s′ true′ inv (overhears-moves anc tree n small s s′ p q o)
+
+  pub overhearing-covers : (words : ℕ → ℕ) → Covering anc n words s → Covering anc n words s′
+  overhearing-covers words inv = a-move-covers anc tree chain n small NoEntry s s′ true′ words words (λ b v e. absurd e) (λ i e. refl) inv (overhears-moves anc tree n small s s′ p q o)

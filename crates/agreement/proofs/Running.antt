@@ -1,0 +1,62 @@
+-- A run step by step: what holds of a fresh group, and that each accepted event of a run is a move. Over any ancestor sets. Assumes nothing.
+use mathlib.Core.Path.{_≡_, sym, ap, subst, _∙_}
+use mathlib.Core.Bool.{true}
+use Prim.Native.Nat.{ℕ, _≤_, _<_}
+use native.Mathlib.Omega.{arith}
+use Rattle.sets.specs.Sets.{has}
+use Rattle.sets.proofs.Laws.Bools.{clash}
+use Rattle.sets.proofs.Laws.Members.{has-zero}
+use Rattle.tree.specs.Relations.{Ancestry}
+use Rattle.rank.specs.declared.Rank.{Rank}
+use Rattle.rank.specs.Words.{outside, allBits}
+use Rattle.rank.specs.Records.{freshRank}
+use Rattle.rank.proofs.Laws.Keeping.{fresh-outside, fresh-heard, fresh-owed, fresh-word}
+use Rattle.group.specs.declared.State.{State}
+use Rattle.group.specs.States.{rankAt}
+use Rattle.group.specs.Order.{event}
+use Rattle.group.specs.Starting.{freshState, started}
+use Rattle.group.specs.Reaching.{Reaches, begun, next}
+use Rattle.group.specs.Moves.{Flies, Move, Entry}
+use Rattle.group.proofs.Laws.Starting.{started-fresh}
+use Rattle.group.proofs.Laws.Preserving.{fresh-rank-at, fresh-count}
+use Rattle.group.proofs.Laws.Following.{event-moves}
+use Rattle.group.proofs.Demands.{reached-small, reached-orderly, reached-size, known-deaths-are-deaths}
+use Rattle.agreement.proofs.Living.{Truthful}
+
+-- ---- a fresh group: all are outside with all bits set, nobody has heard or owes anybody, nothing is in flight
+
+module _ (anc : ℕ → ℕ) (n : ℕ) (small : n ≤ 64) where
+  pub quiet : (k b x : ℕ) → Flies (freshState anc n) k b x → ⊥
+  quiet k b x h = let l = h .listed in omega (arith, fresh-count anc n)
+
+  pub all-outside : (i : ℕ) → i < n → rankAt (freshState anc n) i .phase ≡ outside
+  all-outside i l = ap (λ (r : Rank). r .phase) (fresh-rank-at anc n i small l) ∙ fresh-outside anc n i
+
+  pub all-ones : (i : ℕ) → i < n → rankAt (freshState anc n) i .word ≡ allBits
+  all-ones i l = ap (λ (r : Rank). r .word) (fresh-rank-at anc n i small l) ∙ fresh-word anc n i
+
+  -- a set that is empty in a fresh rank
+  empty : (set : Rank → ℕ) → ((i : ℕ) → set (freshRank anc n i) ≡ 0) → (i x : ℕ) → i < n → has (set (rankAt (freshState anc n) i)) x ≡ true → ⊥
+  empty set e i x l h = clash (has 0 x) (subst (λ (w : ℕ). has w x ≡ true) (ap set (fresh-rank-at anc n i small l) ∙ e i) h) (has-zero x)
+
+  pub none-heard : (i x : ℕ) → i < n → has (rankAt (freshState anc n) i .heard) x ≡ true → ⊥
+  none-heard = empty (λ r. r .heard) (fresh-heard anc n)
+
+  pub none-owed : (i x : ℕ) → i < n → has (rankAt (freshState anc n) i .owed) x ≡ true → ⊥
+  none-owed = empty (λ r. r .owed) (fresh-owed anc n)
+
+-- ---- an accepted event of a run
+
+pub reached-truthful : (anc : ℕ → ℕ) (n : ℕ) (s : State) → Reaches anc n s → Truthful n s
+reached-truthful anc n s run i k l h = known-deaths-are-deaths anc n s run i l k h
+
+pub reached-moves : (anc : ℕ → ℕ) → Ancestry anc → (n : ℕ) (s : State) (kind a b : ℕ) → Reaches anc n s → event anc s kind a b .answer ≡ 0 → Move anc n (Entry kind a b) s (event anc s kind a b .state)
+reached-moves anc tree n s kind a b run z = subst (λ (m : ℕ). Move anc m (Entry kind a b) s (event anc s kind a b .state)) (reached-size anc n s run) (event-moves anc tree s kind a b (reached-orderly anc n s run) z)
+
+-- What holds of a fresh group and is kept by every move holds in every reached state.
+pub every-reached : (anc : ℕ → ℕ) → Ancestry anc → (n : ℕ) (I : State → Type 0) → (n ≤ 64 → I (freshState anc n)) → ((E : ℕ → ℕ → Type 0) (s s′ : State) → n ≤ 64 → Truthful n s′ → I s → Move anc n E s s′ → I s′)
+    → (s : State) → Reaches anc n s → I s
+every-reached anc tree n I first keep s (begun z) = subst I (sym (started-fresh anc n z .1)) (first (reached-small anc n (started anc n .state) (begun z) .1))
+every-reached anc tree n I first keep s (next s′ kind a b run z) =
+    keep (Entry kind a b) s′ (event anc s′ kind a b .state) (reached-small anc n s′ run .1) (reached-truthful anc n (event anc s′ kind a b .state) (next s′ kind a b run z))
+    (every-reached anc tree n I first keep s′ run) (reached-moves anc tree n s′ kind a b run z)
