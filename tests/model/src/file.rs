@@ -105,7 +105,7 @@ mod tests {
 
     #[test]
     fn examples() {
-        for name in ["three", "broken_middle", "root_dies", "sixty_four", "reporter_hangs"] {
+        for name in ["three", "broken_middle", "root_dies", "two_roots", "sixty_four", "reporter_hangs"] {
             let bytes = std::fs::read(format!("{EXAMPLES}/{name}.agr")).expect("a schedule");
             assert_eq!(written(&example(&format!("{name}.events"))), bytes, "{name}");
             assert_eq!(listing(&bytes), example(&format!("{name}.listing")), "{name}");

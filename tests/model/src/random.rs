@@ -206,4 +206,33 @@ mod tests {
             }
         }
     }
+
+    /// The living that have decided hold one result, and it is the AND of the words entered by a set with every living rank in it. If there
+    /// is such a set, then one is: the living, and every dead rank whose word lets the result through.
+    fn agree(g: &Group, words: &[Option<u32>]) -> bool {
+        let mut results = g.ranks.iter().zip(0..).filter(|(r, a)| g.lives(*a) && r.phase == Phase::Decided).map(|(r, _)| r.result);
+        let Some(result) = results.next() else { return true };
+        let member = |a: &u32| g.lives(*a) || words[*a as usize].is_some_and(|w| w & result == result);
+        let and = (0..g.n).filter(member).try_fold(u32::MAX, |and, a| Some(and & words[a as usize]?));
+        results.all(|r| r == result) && and == Some(result)
+    }
+
+    /// Request 2026-05, after every event of many small runs. Each rank's word has its own bit off, so that a result shows its set.
+    #[test]
+    fn the_living_agree() {
+        for seed in 0..40_000 {
+            let random = &mut Random::new(seed);
+            let manner = Manner { crash: 3 + random.below(40), notice: 2 + random.below(20), reorder: random.one_in(2) };
+            let mut g = Group::start(2 + random.below(7));
+            let mut words = vec![None; g.n as usize];
+            while let Some(mut e) = likely(random, &g, &manner) {
+                if e.kind == 1 {
+                    e.b = !(1 << e.a);
+                    words[e.a as usize] = Some(e.b);
+                }
+                assert_eq!(g.event(e).number, 0, "{seed}");
+                assert!(agree(&g, &words), "{seed}");
+            }
+        }
+    }
 }
