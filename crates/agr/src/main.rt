@@ -8,7 +8,7 @@ fn main() {
     let mut answers = [0u32; 12288];
     let mut text = [0u8; 183218];
     let got = io::read_full(STDIN_FILENO, &mut file);
-    let end = schedule::report(&file[..got], &mut answers, &mut text);
+    let end = listing::report(&file[..got], &mut answers, &mut text);
     if !io::write_all(STDOUT_FILENO, &text[..end]) {
         os::fail(&[b'a', b'g', b'r']);
     }

@@ -28,7 +28,7 @@ fn print(path: &[u8]) {
     let mut answers = [0u32; 12288];
     let mut text = [0u8; 183218];
     let got = io::read_full(fd, &mut file);
-    let end = schedule::report(&file[..got], &mut answers, &mut text);
+    let end = listing::report(&file[..got], &mut answers, &mut text);
     io::write_all(STDOUT_FILENO, &text[..end]);
     libc::close(fd);
 }

@@ -7,16 +7,16 @@ use Prim.Native.Nat.{ℕ}
 use Rattle.tree.specs.Tree.{flat}
 use Rattle.tree.specs.Relations.{Ancestry, Chained}
 use Rattle.tree.proofs.Laws.Flat.{flat-ancestry, flat-chained}
-use Rattle.group.specs.declared.State.{State}
-use Rattle.group.specs.States.{rankAt}
+use Rattle.state.specs.declared.State.{State}
+use Rattle.state.specs.States.{rankAt}
 use Rattle.group.specs.Reaching.{Reaches}
-use Rattle.schedule.specs.Files.{byteAt}
+use Rattle.files.specs.Files.{byteAt}
 use Rattle.schedule.specs.Runs.{run}
 use Rattle.schedule.proofs.Reaching.{run-reaches}
 use Rattle.agreement.specs.Progress.{Lives}
 use Rattle.agreement.specs.Agreement.{wordOf, FromTheLiving, Decides, Agreement}
 use Rattle.agreement.proofs.Concord.Reaching.{reached-agrees}
-use Rattle.agreement.proofs.Coverage.Covering.{Combines}
+use Rattle.agreement.proofs.Coverage.Invariant.{Combines}
 use Rattle.agreement.proofs.Coverage.Reaching.{reached-covers, entered-in-the-run}
 
 module _ (anc : ℕ → ℕ) (tree : Ancestry anc) (chain : Chained anc) (n : ℕ) (s : State) (r : Reaches anc n s) where

@@ -1,7 +1,7 @@
 -- The same result: the invariant, and that each move keeps it.
-pub mod Accord
+pub mod Invariant
 pub mod Leading
 pub mod Linking
-pub mod Turning
-pub mod Fading
+pub mod ByRank
+pub mod ByLoss
 pub mod Reaching

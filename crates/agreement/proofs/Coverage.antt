@@ -1,6 +1,6 @@
 -- Every living one: the invariant, and that each move keeps it.
-pub mod Covering
+pub mod Invariant
 pub mod Words
-pub mod Turning
-pub mod Fading
+pub mod ByRank
+pub mod ByLoss
 pub mod Reaching

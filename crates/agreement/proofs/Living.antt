@@ -6,16 +6,16 @@ use native.Mathlib.Omega.{arith}
 use Rattle.sets.specs.Sets.{has}
 use Rattle.sets.proofs.Laws.Bools.{clash, fails}
 use Rattle.rank.specs.declared.Send.{Send}
-use Rattle.group.specs.declared.State.{State}
-use Rattle.group.specs.States.{rankAt}
-use Rattle.group.specs.Moves.{Flies, Turns, Fades}
+use Rattle.state.specs.declared.State.{State}
+use Rattle.state.specs.States.{rankAt}
+use Rattle.group.proofs.Moves.{Flies, ByRank, ByLoss}
 use Rattle.agreement.specs.Progress.{Lives}
 
 -- Every death that a rank has marked is one.
 abbrev pub Truthful : ℕ → State → Type 0
 Truthful n s = (i k : ℕ) → i < n → has (rankAt s i .marks) k ≡ true → has (s .group .dead) k ≡ true
 
-module _ {anc : ℕ → ℕ} {n : ℕ} {s s′ : State} {p kind q : ℕ} {f g : Send} (t : Turns anc n s s′ p kind q f g) where
+module _ {anc : ℕ → ℕ} {n : ℕ} {s s′ : State} {p kind q : ℕ} {f g : Send} (t : ByRank anc n s s′ p kind q f g) where
   pub lived : (x : ℕ) → Lives n s′ x → Lives n s x
   lived x l = (l .0, subst (λ (w : ℕ). has w x ≡ false) (t .dead-stays) (l .1))
 
@@ -31,5 +31,5 @@ module _ {anc : ℕ → ℕ} {n : ℕ} {s s′ : State} {p kind q : ℕ} {f g : 
   taken k l e = subst (λ (j : ℕ). Flies s j q p) e (t .took (λ z. omega arith))
 
 -- where ranks die, whoever lives lived
-pub faded : {n : ℕ} {s s′ : State} → Fades s s′ → (x : ℕ) → Lives n s′ x → Lives n s x
+pub faded : {n : ℕ} {s s′ : State} → ByLoss s s′ → (x : ℕ) → Lives n s′ x → Lives n s x
 faded {n} {s} {s′} t x l = (l .0, fails (has (s .group .dead) x) (λ h. clash (has (s′ .group .dead) x) (t .dead-stays x h) (l .1)))

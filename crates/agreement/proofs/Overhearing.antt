@@ -1,28 +1,45 @@
--- An ASK of another agreement that is overheard is a move like any other, in which nobody enters: it keeps all three invariants. Over any
--- ancestor sets with their chain law. Assumes nothing.
+-- The one transition more (2026-11), of the group: an ASK of another agreement comes to rank p from q, and p overhears it here.
+use Prim.Native.Nat.{ℕ, _<_, _≤_}
 use mathlib.Core.Path.{_≡_, refl, sym, subst}
+use mathlib.Core.Bool.{false}
 use mathlib.Core.Logic.{_⊎_, inl, inr}
-use Prim.Native.Nat.{ℕ, _≤_}
 use native.Mathlib.Omega.{arith}
+use Rattle.sets.specs.Sets.{has}
 use Rattle.tree.specs.Relations.{Ancestry, Chained}
+use Rattle.rank.proofs.Facts.{RankInOrder}
+use Rattle.rank.proofs.Overhearing.{overhearing}
+use Rattle.rank.proofs.Speech.{SaysWord, Speech}
 use Rattle.rank.specs.declared.Rank.{Rank}
 use Rattle.rank.specs.declared.Send.{Send}
-use Rattle.rank.specs.Turns.{Says, Turn, overhearing}
-use Rattle.rank.specs.Speech.{SaysWord, Speech}
-use Rattle.rank.proofs.Laws.Turning.{overhear-turn}
-use Rattle.rank.proofs.Laws.Uttering.{some-word, any-word}
-use Rattle.rank.proofs.Laws.Speaking.{overhear-speech}
-use Rattle.group.specs.declared.State.{State}
-use Rattle.group.specs.States.{rankAt, placeAt}
-use Rattle.group.specs.Moves.{Flies, Carries, Turns, Move, turns}
-use Rattle.agreement.specs.Overhearing.{Overhears}
+use Rattle.rank.proofs.Turn.{Says, Turn}
+use Rattle.rank.proofs.Laws.RuleTurns.{overhear-turn}
+use Rattle.rank.proofs.Laws.SettleSpeech.{some-word, any-word}
+use Rattle.rank.proofs.Laws.RuleSpeeches.{overhear-speech}
+use Rattle.state.specs.declared.State.{State}
+use Rattle.state.specs.States.{rankAt, placeAt}
+use Rattle.group.proofs.Moves.{Carries, Flies, ByRank, Move, by-rank}
 use Rattle.agreement.proofs.Living.{Truthful}
-use Rattle.agreement.proofs.Progress.Standing.{Standing}
+use Rattle.agreement.proofs.Progress.Invariant.{Progress}
 use Rattle.agreement.proofs.Progress.Moving.{a-move-keeps}
-use Rattle.agreement.proofs.Concord.Accord.{Accord}
+use Rattle.agreement.proofs.Concord.Invariant.{Concord}
 use Rattle.agreement.proofs.Concord.Reaching.{a-move-agrees}
-use Rattle.agreement.proofs.Coverage.Covering.{Covering}
+use Rattle.agreement.proofs.Coverage.Invariant.{Coverage}
 use Rattle.agreement.proofs.Coverage.Reaching.{a-move-covers}
+
+-- p lives and q, which is below p, is not marked by it. p's record is what `overhearing` makes of it and all else stays; what p sends joins
+-- the messages in flight, and nothing else joins or leaves.
+pub record Overhears (anc : ℕ → ℕ) (n : ℕ) (s s′ : State) (p q : ℕ) : Type 0 where
+  pub own : p < n
+  pub lives : has (s .group .dead) p ≡ false
+  pub in-order : RankInOrder anc n p (rankAt s p)
+  pub lower : q < p
+  pub free : has (rankAt s p .marks) q ≡ false
+  pub dead-stays : s′ .group .dead ≡ s .group .dead
+  pub others : (j : ℕ) → (j ≡ p → ⊥) → rankAt s′ j ≡ rankAt s j
+  pub rank-is : rankAt s′ p ≡ overhearing anc n p q (rankAt s p) .rank
+  pub stays : (k b x w : ℕ) → Carries s k b x w → Carries s′ k b x w
+  pub was : (k b x w : ℕ) → Carries s′ k b x w → Carries s k b x w ⊎ ((b ≡ p) × SaysWord (overhearing anc n p q (rankAt s p) .first) (overhearing anc n p q (rankAt s p) .second) k w x)
+  pub joins : (k x w : ℕ) → SaysWord (overhearing anc n p q (rankAt s p) .first) (overhearing anc n p q (rankAt s p) .second) k w x → Carries s′ k p x w
 
 -- nobody enters
 abbrev pub NoEntry : ℕ → ℕ → Type 0
@@ -39,13 +56,13 @@ module _ (anc : ℕ → ℕ) (tree : Ancestry anc) (n : ℕ) (small : n ≤ 64) 
   abbrev g : Send
   g = overhearing anc n p q (rankAt s p) .second
 
-  turn : Turns anc n s s′ p 0 0 f g
+  turn : ByRank anc n s s′ p 0 0 f g
   turn = record {
     own = o .own;
     lives = o .lives;
     dead-stays = o .dead-stays;
     others = o .others;
-    turn = subst (λ (r : Rank). Turn anc n p 0 0 (rankAt s p) r f g) (sym (o .rank-is)) (overhear-turn anc tree n p small (o .own) q (rankAt s p) (o .ordered) (o .lower) (o .free));
+    turn = subst (λ (r : Rank). Turn anc n p 0 0 (rankAt s p) r f g) (sym (o .rank-is)) (overhear-turn anc tree n p small (o .own) q (rankAt s p) (o .in-order) (o .lower) (o .free));
     took = λ h. absurd (h refl);
     known = λ h. absurd (h refl);
     stays = λ k b x h. inl (o .stays k b x (placeAt s (h .place) .word) (carried s k b x h) .flies);
@@ -58,7 +75,7 @@ module _ (anc : ℕ → ℕ) (tree : Ancestry anc) (n : ℕ) (small : n ≤ 64) 
       go k b x w (inr h) = inr (h .0, any-word f g k w x (h .1))
 
   pub overhears-moves : Move anc n NoEntry s s′
-  overhears-moves = turns p 0 0 0 f g turn (record {
+  overhears-moves = by-rank p 0 0 0 f g turn (record {
     speech = subst (λ (r : Rank). Speech anc n p 0 0 0 (NoEntry p 0) (rankAt s p) r f g) (sym (o .rank-is)) (overhear-speech anc n p small (o .own) (NoEntry p 0) 0 q (rankAt s p) (o .lower) (o .free));
     took = λ h. absurd (h refl);
     asker = λ h. absurd (omega arith);
@@ -67,11 +84,11 @@ module _ (anc : ℕ → ℕ) (tree : Ancestry anc) (n : ℕ) (small : n ≤ 64) 
 
 -- It keeps all three invariants, with the words as they were entered.
 module _ (anc : ℕ → ℕ) (tree : Ancestry anc) (chain : Chained anc) (n : ℕ) (small : n ≤ 64) (s s′ : State) (true′ : Truthful n s′) (p q : ℕ) (o : Overhears anc n s s′ p q) where
-  pub overhearing-stands : Standing anc n s → Standing anc n s′
+  pub overhearing-stands : Progress anc n s → Progress anc n s′
   overhearing-stands inv = a-move-keeps anc tree chain n small s s′ true′ inv NoEntry (overhears-moves anc tree n small s s′ p q o)
 
-  pub overhearing-agrees : Accord anc n s → Accord anc n s′
+  pub overhearing-agrees : Concord anc n s → Concord anc n s′
   overhearing-agrees inv = a-move-agrees anc tree chain n small NoEntry s s′ true′ inv (overhears-moves anc tree n small s s′ p q o)
 
-  pub overhearing-covers : (words : ℕ → ℕ) → Covering anc n words s → Covering anc n words s′
+  pub overhearing-covers : (words : ℕ → ℕ) → Coverage anc n words s → Coverage anc n words s′
   overhearing-covers words inv = a-move-covers anc tree chain n small NoEntry s s′ true′ words words (λ b v e. absurd e) (λ i e. refl) inv (overhears-moves anc tree n small s s′ p q o)

@@ -1,8 +1,8 @@
 -- Nobody hangs: the invariant, that each move keeps it, and the claim.
-pub mod Standing
-pub mod Turning
+pub mod Invariant
+pub mod ByRank
 pub mod Linking
-pub mod Fading
+pub mod ByLoss
 pub mod Moving
 pub mod Deciding
 pub mod Reaching

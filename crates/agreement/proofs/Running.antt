@@ -11,16 +11,15 @@ use Rattle.rank.specs.declared.Rank.{Rank}
 use Rattle.rank.specs.Words.{outside, allBits}
 use Rattle.rank.specs.Records.{freshRank}
 use Rattle.rank.proofs.Laws.Keeping.{fresh-outside, fresh-heard, fresh-owed, fresh-word}
-use Rattle.group.specs.declared.State.{State}
-use Rattle.group.specs.States.{rankAt}
-use Rattle.group.specs.Order.{event}
-use Rattle.group.specs.Starting.{freshState, started}
+use Rattle.state.specs.declared.State.{State}
+use Rattle.state.specs.States.{rankAt}
+use Rattle.state.specs.Starting.{freshState, started}
+use Rattle.state.proofs.Laws.Starting.{started-fresh, fresh-rank-at, fresh-count}
+use Rattle.group.specs.Events.{event}
 use Rattle.group.specs.Reaching.{Reaches, begun, next}
-use Rattle.group.specs.Moves.{Flies, Move, Entry}
-use Rattle.group.proofs.Laws.Starting.{started-fresh}
-use Rattle.group.proofs.Laws.Preserving.{fresh-rank-at, fresh-count}
+use Rattle.group.proofs.Moves.{Flies, Move, Entry}
 use Rattle.group.proofs.Laws.Following.{event-moves}
-use Rattle.group.proofs.Demands.{reached-small, reached-orderly, reached-size, known-deaths-are-deaths}
+use Rattle.group.proofs.Demands.{reached-small, reached-in-order, reached-size, known-deaths-are-deaths}
 use Rattle.agreement.proofs.Living.{Truthful}
 
 -- ---- a fresh group: all are outside with all bits set, nobody has heard or owes anybody, nothing is in flight
@@ -51,7 +50,7 @@ pub reached-truthful : (anc : ℕ → ℕ) (n : ℕ) (s : State) → Reaches anc
 reached-truthful anc n s run i k l h = known-deaths-are-deaths anc n s run i l k h
 
 pub reached-moves : (anc : ℕ → ℕ) → Ancestry anc → (n : ℕ) (s : State) (kind a b : ℕ) → Reaches anc n s → event anc s kind a b .answer ≡ 0 → Move anc n (Entry kind a b) s (event anc s kind a b .state)
-reached-moves anc tree n s kind a b run z = subst (λ (m : ℕ). Move anc m (Entry kind a b) s (event anc s kind a b .state)) (reached-size anc n s run) (event-moves anc tree s kind a b (reached-orderly anc n s run) z)
+reached-moves anc tree n s kind a b run z = subst (λ (m : ℕ). Move anc m (Entry kind a b) s (event anc s kind a b .state)) (reached-size anc n s run) (event-moves anc tree s kind a b (reached-in-order anc n s run) z)
 
 -- What holds of a fresh group and is kept by every move holds in every reached state.
 pub every-reached : (anc : ℕ → ℕ) → Ancestry anc → (n : ℕ) (I : State → Type 0) → (n ≤ 64 → I (freshState anc n)) → ((E : ℕ → ℕ → Type 0) (s s′ : State) → n ≤ 64 → Truthful n s′ → I s → Move anc n E s s′ → I s′)

@@ -17,30 +17,29 @@ use Rattle.sets.specs.Sets.{has, only, union, meet, minus, add, below, setOf, c
 use Rattle.tree.proofs.Laws.Rows.{same-eq}
 use Rattle.tree.specs.Calls.{movedBelow, wrongSize, same}
 use Rattle.tree.specs.Tree.{halvings, flat, parent, children, row, entry, fresh, moves, moved}
-use Rattle.rank.specs.Order.{proper, clauses, inOrder}
 use Rattle.rank.specs.Records.{becoming, combining, concluding, owing, parentOf, childrenOf, awaiting, freshRank, hearing, viewing}
 use Rattle.rank.specs.Rules.{inPhase, saying, deciding, settled, done, settling, entering, noting, raised, takingUp, lowered, takingDown, asked, takingAsk, renewing, regathering, orphaned, inheriting, bereaved, noticing}
-use Rattle.rank.specs.Sends.{silent, reports, tells, asks, letter, letters, sent}
-use Rattle.rank.specs.Words.{combine}
-use Rattle.group.specs.Events.{size, idle, subject, refusing, accepting, afterwards, fitting, delivered, acting, planned, posted, placed, joining, applied, refused, carried, subjectOf, planOf, stepped}
-use Rattle.group.specs.Net.{padded, without}
-use Rattle.group.specs.Order.{isWithin, memberOrder, zeroRecord, strangerOrder, seatOrder, rankOrder, messageOrder, zeroPlace, netOrder, placeOrder, orderly, event}
-use Rattle.group.specs.Refusing.{namesRank, namesPlace, wrongKind, wrongRank, noMessage, isDead, notOutside, isLiving, isLast, bothLive, lateRefusal, refusal}
-use Rattle.group.specs.Starting.{firstRank, firstRow, freshState, started}
-use Rattle.group.specs.States.{rankAt, rowAt, placeAt, flying}
-use Rattle.schedule.specs.Files.{byteAt, shortAt, numberAt, eventAt, eventsIn, wrongMark, wrongVersion, broken, header, numberOf}
-use Rattle.schedule.specs.Runs.{written, stepAt, played, refusedRun, acceptedRun, opened, run}
-use Rattle.schedule.specs.Witnesses.{then, file, three}
-use Rattle.rank.specs.Words.{outside, decided}
-use Rattle.group.specs.declared.State.{State}
+use Rattle.rank.specs.Sends.{silent, reports, tells, asks, letter, letters}
+use Rattle.rank.specs.Words.{combine, outside, decided}
+use Rattle.net.specs.Net.{joining, padded, without}
+use Rattle.refusals.specs.Refusing.{namesRank, namesPlace, wrongKind, wrongRank, noMessage, isDead, notOutside, isLiving, isLast, bothLive, lateRefusal, refusal}
+use Rattle.state.specs.Starting.{firstRank, firstRow, freshState, started}
+use Rattle.state.specs.States.{rankAt}
+use Rattle.state.specs.declared.State.{State}
+use Rattle.order.specs.Order.{proper, clauses, rankInOrder, isWithin, memberInOrder, zeroRecord, strangerInOrder, seatInOrder, seatInOrderAt, messageInOrder, zeroPlace, placeInOrder, placeInOrderAt, inOrder}
+use Rattle.plans.specs.Plans.{subject, refusing, accepting, afterwards, fitting, delivered, acting, planned}
+use Rattle.group.specs.Events.{posted, applied, refused, carried, subjectOf, planOf, stepped, event}
 use Rattle.group.specs.Reaching.{Reaches, begun, next}
+use Rattle.files.specs.Files.{byteAt, shortAt, numberAt, eventAt, eventsIn, wrongMark, wrongVersion, broken, header, numberOf}
+use Rattle.schedule.specs.Runs.{written, stepAt, played, refusedRun, acceptedRun, opened, run}
+use Rattle.schedule.specs.Samples.{then, file, three}
 use Rattle.schedule.proofs.Reaching.{run-reaches}
 use Rattle.agreement.specs.Progress.{Lives, Quiet, AllEntered, AllDeathsKnown, AllDecided}
 use Rattle.agreement.specs.Agreement.{isEntry, hasEntered, wordOf}
 use Rattle.agreement.specs.Witnesses.{mourned, absent, busy, untold, bereft, slice, runs, ended, isQuiet, allEntered, allDeathsKnown, allDecided, shown, LivesWith, DiedWith, witnesses}
 
 pub the-tests-pass : all witnesses ≡ true
-unfolding has only union meet minus add below setOf count largest smallest listed every all movedBelow wrongSize same halvings flat parent children row entry fresh moves moved proper clauses inOrder becoming combining concluding owing parentOf childrenOf awaiting freshRank hearing viewing inPhase saying deciding settled done settling entering noting raised takingUp lowered takingDown asked takingAsk renewing regathering orphaned inheriting bereaved noticing silent reports tells asks letter letters sent combine size idle subject refusing accepting afterwards fitting delivered acting planned posted placed joining applied refused carried subjectOf planOf stepped padded without isWithin memberOrder zeroRecord strangerOrder seatOrder rankOrder messageOrder zeroPlace netOrder placeOrder orderly event namesRank namesPlace wrongKind wrongRank noMessage isDead notOutside isLiving isLast bothLive lateRefusal refusal firstRank firstRow freshState started rankAt rowAt placeAt flying byteAt shortAt numberAt eventAt eventsIn wrongMark wrongVersion broken header numberOf written stepAt played refusedRun acceptedRun opened run then file three mourned absent busy untold bereft slice runs ended isQuiet allEntered allDeathsKnown allDecided shown witnesses
+unfolding has only union meet minus add below setOf count largest smallest listed every all movedBelow wrongSize same halvings flat parent children row entry fresh moves moved proper clauses rankInOrder becoming combining concluding owing parentOf childrenOf awaiting freshRank hearing viewing inPhase saying deciding settled done settling entering noting raised takingUp lowered takingDown asked takingAsk renewing regathering orphaned inheriting bereaved noticing silent reports tells asks letter letters combine subject refusing accepting afterwards fitting delivered acting planned posted joining applied refused carried subjectOf planOf stepped padded without isWithin memberInOrder zeroRecord strangerInOrder seatInOrder seatInOrderAt messageInOrder zeroPlace placeInOrder placeInOrderAt inOrder event namesRank namesPlace wrongKind wrongRank noMessage isDead notOutside isLiving isLast bothLive lateRefusal refusal firstRank firstRow freshState started byteAt shortAt numberAt eventAt eventsIn wrongMark wrongVersion broken header numberOf written stepAt played refusedRun acceptedRun opened run then file three mourned absent busy untold bereft slice runs ended isQuiet allEntered allDeathsKnown allDecided shown witnesses
 the-tests-pass = refl
 
 -- ---- from the tests to the words

@@ -6,8 +6,8 @@ use mathlib.Core.Bool.{Bool, true, false, cond, _&&_}
 use lib.Dec.{eqb}
 use Rattle.sets.specs.Sets.{has}
 use Rattle.rank.specs.Words.{decided, allBits, combine}
-use Rattle.group.specs.declared.State.{State}
-use Rattle.group.specs.States.{rankAt}
+use Rattle.state.specs.declared.State.{State}
+use Rattle.state.specs.States.{rankAt}
 use Rattle.group.specs.Reaching.{Reaches, begun, next}
 use Rattle.agreement.specs.Progress.{Lives}
 

@@ -1,4 +1,3 @@
 pub mod Progress
 pub mod Agreement
-pub mod Overhearing
 pub mod Witnesses

@@ -4,8 +4,8 @@ use mathlib.Core.Path.{_≡_}
 use mathlib.Core.Bool.{true, false}
 use Rattle.sets.specs.Sets.{has}
 use Rattle.rank.specs.Words.{outside, decided}
-use Rattle.group.specs.declared.State.{State}
-use Rattle.group.specs.States.{rankAt}
+use Rattle.state.specs.declared.State.{State}
+use Rattle.state.specs.States.{rankAt}
 use Rattle.group.specs.Reaching.{Reaches}
 
 -- Rank i, of a group of n, is living.

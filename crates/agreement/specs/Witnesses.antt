@@ -9,12 +9,12 @@ use Rattle.sets.specs.Sets.{has, minus, every}
 use Rattle.tree.specs.Tree.{flat}
 use Rattle.tree.specs.Calls.{same}
 use Rattle.rank.specs.Words.{outside, decided}
-use Rattle.group.specs.declared.State.{State}
-use Rattle.group.specs.States.{rankAt}
-use Rattle.group.specs.Order.{event}
-use Rattle.group.specs.Starting.{started}
+use Rattle.state.specs.declared.State.{State}
+use Rattle.state.specs.States.{rankAt}
+use Rattle.state.specs.Starting.{started}
+use Rattle.group.specs.Events.{event}
 use Rattle.schedule.specs.Runs.{run}
-use Rattle.schedule.specs.Witnesses.{then, file, three}
+use Rattle.schedule.specs.Samples.{then, file, three}
 use Rattle.agreement.specs.Agreement.{Decides}
 
 -- ---- schedules

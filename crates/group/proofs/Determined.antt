@@ -2,13 +2,8 @@
 use mathlib.Core.Path.{_≡_}
 use contract.Lifetimes.{Lfts}
 use Rattle.sets.proofs.Laws.Alike.{alike}
-use Rattle.group.specs.declared.Started.{Started}
 use Rattle.group.specs.declared.Stepped.{Stepped}
-use Rattle.group.proofs.starting.start.Reads as start
-use Rattle.group.proofs.order.event.Reads as event
-
-pub start-determined : (κs : Lfts 0) (a : _) (t u : Started) (x y : _) → start.Post κs a t x → start.Post κs a u y → t ≡ u
-start-determined κs a t u x y e f = alike e f
+use Rattle.group.proofs.event.Reads as event
 
 pub event-determined : (κs : Lfts 0) (a : _) (t u : Stepped) (x y : _) → event.Post κs a t x → event.Post κs a u y → t ≡ u
 event-determined κs a t u x y e f = alike e f

@@ -10,15 +10,14 @@ use Rattle.rank.specs.Words.{combine}
 use Rattle.rank.specs.Records.{becoming, combining, concluding, parentOf, childrenOf, awaiting, freshRank}
 use Rattle.rank.specs.Sends.{silent, reports, tells as tellsAll, letter, letters}
 use Rattle.rank.specs.Rules.{inPhase, saying, deciding, settled, settling, entering}
-use Rattle.rank.specs.Order.{proper, clauses, inOrder}
-use Rattle.group.specs.Net.{padded, without}
-use Rattle.group.specs.States.{rankAt, rowAt, placeAt, flying}
-use Rattle.group.specs.Refusing.{namesRank, namesPlace, wrongKind, wrongRank, noMessage, isDead, notOutside, isLiving, isLast, bothLive, lateRefusal, refusal}
-use Rattle.group.specs.Events.{size, idle, subject, acting, refusing, accepting, afterwards, fitting, planned, posted, placed, applied, refused, carried, subjectOf, planOf, stepped}
-use Rattle.group.specs.Order.{isWithin, memberOrder, zeroRecord, strangerOrder, seatOrder, rankOrder, messageOrder, zeroPlace, netOrder, placeOrder, orderly, event}
-use Rattle.group.specs.Starting.{firstRank, firstRow, freshState, emptyState, started}
+use Rattle.net.specs.Net.{padded, without}
+use Rattle.refusals.specs.Refusing.{namesRank, namesPlace, wrongKind, wrongRank, noMessage, isDead, notOutside, isLiving, isLast, bothLive, lateRefusal, refusal}
+use Rattle.state.specs.Starting.{firstRank, firstRow, freshState, emptyState, started}
+use Rattle.order.specs.Order.{proper, clauses, rankInOrder, isWithin, memberInOrder, zeroRecord, strangerInOrder, seatInOrder, seatInOrderAt, messageInOrder, zeroPlace, placeInOrder, placeInOrderAt, inOrder}
+use Rattle.plans.specs.Plans.{subject, acting, refusing, accepting, afterwards, fitting, planned}
+use Rattle.group.specs.Events.{posted, applied, refused, carried, subjectOf, planOf, stepped, event}
 use Rattle.group.specs.Examples.{answers, alone, examples}
 
 pub examples-hold : all examples ≡ true
-unfolding all examples answers alone Tree.examples parents8 gives tells after1 after0 after01 after012 again same wrongSize wrongView markRefused marked climbing climbed halvings flat parent children row entry fresh moves moved upwards path links reached has only union meet minus add below setOf count largest smallest listed every combine becoming combining concluding parentOf childrenOf awaiting freshRank silent reports tellsAll letter letters inPhase saying deciding settled settling entering proper clauses inOrder padded without rankAt rowAt placeAt flying namesRank namesPlace wrongKind wrongRank noMessage isDead notOutside isLiving isLast bothLive lateRefusal refusal size idle subject acting refusing accepting afterwards fitting planned posted placed applied refused carried subjectOf planOf stepped isWithin memberOrder zeroRecord strangerOrder seatOrder rankOrder messageOrder zeroPlace netOrder placeOrder orderly event firstRank firstRow freshState emptyState started
+unfolding all examples answers alone Tree.examples parents8 gives tells after1 after0 after01 after012 again same wrongSize wrongView markRefused marked climbing climbed halvings flat parent children row entry fresh moves moved upwards path links reached has only union meet minus add below setOf count largest smallest listed every combine becoming combining concluding parentOf childrenOf awaiting freshRank silent reports tellsAll letter letters inPhase saying deciding settled settling entering proper clauses rankInOrder padded without namesRank namesPlace wrongKind wrongRank noMessage isDead notOutside isLiving isLast bothLive lateRefusal refusal subject acting refusing accepting afterwards fitting planned posted applied refused carried subjectOf planOf stepped isWithin memberInOrder zeroRecord strangerInOrder seatInOrder seatInOrderAt messageInOrder zeroPlace placeInOrder placeInOrderAt inOrder event firstRank firstRow freshState emptyState started
 examples-hold = refl

@@ -1,87 +1,25 @@
--- The group and its events: what an event does to one rank, the plan; and what carrying the plan out does to the state.
--- Over any ancestor sets.
-use Prim.Native.Nat.{ℕ, _+_, _-_}
-use mathlib.Core.Bool.{false, cond, _||_}
+-- The group and its events: what carrying a plan out does to the state, and an event on any state handed in. Over any ancestor sets.
+use Prim.Native.Nat.{ℕ, _+_}
+use mathlib.Core.Bool.{cond}
 use mathlib.Core.List.{List, _++_}
-use lib.Dec.{eqb, ltb}
-use lib.ListN.{length, set}
-use Rattle.sets.specs.Sets.{has, add, count}
-use Rattle.tree.specs.Refusals.{accepted, tooMany}
-use Rattle.rank.specs.declared.Rank.{Rank}
-use Rattle.rank.specs.declared.Send.{Send}
+use lib.Dec.{eqb}
+use lib.ListN.{set}
+use Rattle.sets.specs.Sets.{add, count}
+use Rattle.tree.specs.Refusals.{accepted, badSize, notInOrder}
+use Rattle.tree.specs.Calls.{wrongSize}
 use Rattle.rank.specs.declared.Message.{Message}
-use Rattle.rank.specs.declared.Acted.{Acted}
-use Rattle.rank.specs.Words.{up, down}
-use Rattle.rank.specs.Sends.{silent, letters}
-use Rattle.rank.specs.Rules.{entering, takingUp, takingDown, takingAsk, noticing}
-use Rattle.group.specs.declared.State.{State}
-use Rattle.group.specs.declared.Plan.{Plan}
-use Rattle.group.specs.declared.Joined.{Joined}
+use Rattle.rank.specs.Sends.{letters, size}
+use Rattle.net.specs.Net.{without, placed}
+use Rattle.state.specs.declared.State.{State}
+use Rattle.state.specs.States.{joined, rankAt, rowAt, placeAt, flying}
+use Rattle.order.specs.Order.{inOrder}
+use Rattle.plans.specs.declared.Plan.{Plan}
+use Rattle.plans.specs.Plans.{subject, planned}
 use Rattle.group.specs.declared.Stepped.{Stepped}
-use Rattle.group.specs.Net.{inFlight, padded, without}
-use Rattle.group.specs.States.{joined, rankAt, rowAt, placeAt, flying}
-use Rattle.group.specs.Refusing.{enters, delivers, crashes, notices, namesPlace, refusal}
-
--- How many messages a send makes.
-unfoldable pub size : Send → ℕ
-size s = count (has (s .to)) 64
-
--- A rank that does nothing, with its row.
-unfoldable pub idle : Rank → List ℕ → Acted
-idle r row = record { rank = r; row = row; first = silent; second = silent; moved = 0 }
-
--- The rank that an event is about, always one of the group: the receiver of the message, or rank a.
-unfoldable pub subject : ℕ → ℕ → ℕ → Message → ℕ
-subject n kind a m = cond (namesPlace kind) (m .to) (cond (ltb a n) a 0)
-
--- A refusal plans nothing.
-unfoldable pub refusing : ℕ → Rank → List ℕ → Plan
-refusing number r row = record { answer = number; leaves = false; dies = false; acted = idle r row }
-
-unfoldable pub accepting : ℕ → Acted → Plan
-accepting kind a = record { answer = accepted; leaves = namesPlace kind; dies = eqb kind crashes; acted = a }
-
--- How many are in flight once the message has left and the sends have joined.
-unfoldable pub afterwards : ℕ → ℕ → Acted → ℕ
-afterwards count kind a = count + size (a .first) + size (a .second) - cond (namesPlace kind) 1 0
-
--- 11: over 128 messages would be in flight afterwards.
-unfoldable pub fitting : ℕ → ℕ → Rank → List ℕ → Acted → Plan
-fitting count kind r row a = cond (ltb inFlight (afterwards count kind a)) (refusing tooMany r row) (accepting kind a)
-
-module _ (anc : ℕ → ℕ) (n dead : ℕ) where
-  -- Delivery to a dead rank, or from a sender the receiver has marked, removes the message and does nothing else.
-  unfoldable pub delivered : ℕ → Message → Rank → List ℕ → Acted
-  delivered me m r row =
-      cond (has dead me || has (r .marks) (m .from)) (idle r row)
-      (cond (eqb (m .kind) up) (takingUp anc n me (m .from) (m .word) r)
-      (cond (eqb (m .kind) down) (takingDown anc n me (m .word) r)
-      (takingAsk anc n me (m .from) r)))
-
-  -- What the event has its rank do. A crash freezes the record, and a lost message is nobody's.
-  unfoldable pub acting : ℕ → ℕ → Message → ℕ → Rank → List ℕ → Acted
-  acting kind b m me r row =
-      cond (eqb kind enters) (entering anc n me b r)
-      (cond (eqb kind delivers) (delivered me m r row)
-      (cond (eqb kind notices) (noticing anc n me b r)
-      (idle r row)))
-
-  unfoldable pub planned : ℕ → ℕ → ℕ → ℕ → Message → ℕ → Rank → List ℕ → Plan
-  planned count kind a b m me r row =
-      cond (eqb (refusal n dead count kind a b r m) accepted)
-      (fitting count kind r row (acting kind b m me r row))
-      (refusing (refusal n dead count kind a b r m) r row)
 
 -- The list once a message has left and the sends have joined at the end.
 unfoldable pub posted : List Message → ℕ → ℕ → Plan → List Message
 posted l place me p = (cond (p .leaves) (without place l) l ++ letters me (p .acted .first)) ++ letters me (p .acted .second)
-
--- A list in its 128 places, with its length; and with the messages of a send at its end.
-unfoldable pub placed : List Message → Joined
-placed l = record { net = padded l; count = length l }
-
-unfoldable pub joining : List Message → ℕ → Send → Joined
-joining l me s = placed (l ++ letters me s)
 
 -- Carrying a plan out: one rank's record and row, the dead set and the list; and nothing else.
 unfoldable pub applied : State → ℕ → ℕ → Plan → State
@@ -118,3 +56,10 @@ planOf anc s kind a b =
 -- The step of an event on a state in order.
 unfoldable pub stepped : (ℕ → ℕ) → State → ℕ → ℕ → ℕ → Stepped
 stepped anc s kind a b = carried s a (subjectOf s kind a) (planOf anc s kind a b)
+
+-- An event on a state handed in: the size (1), then the order (2), then the step.
+unfoldable pub event : (ℕ → ℕ) → State → ℕ → ℕ → ℕ → Stepped
+event anc s kind a b =
+    cond (wrongSize (s .group .n)) (refused badSize s)
+    (cond (inOrder anc s) (stepped anc s kind a b)
+    (refused notInOrder s))

@@ -6,10 +6,10 @@ use lib.Dec.{eqb}
 use Rattle.tree.specs.Tree.{flat}
 use Rattle.tree.specs.Examples as Tree
 use Rattle.rank.specs.Words.{decided}
+use Rattle.state.specs.States.{rankAt}
+use Rattle.state.specs.Starting.{started}
 use Rattle.group.specs.declared.Stepped.{Stepped}
-use Rattle.group.specs.States.{rankAt}
-use Rattle.group.specs.Order.{event}
-use Rattle.group.specs.Starting.{started}
+use Rattle.group.specs.Events.{event}
 
 unfoldable pub answers : Stepped → ℕ → ℕ → Bool
 answers r number sent = eqb (r .answer) number && eqb (r .sent) sent

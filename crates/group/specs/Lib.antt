@@ -1,9 +1,4 @@
-pub mod Net
-pub mod States
-pub mod Refusing
 pub mod Events
-pub mod Order
-pub mod Starting
+pub mod Between
 pub mod Reaching
 pub mod Examples
-pub mod Moves

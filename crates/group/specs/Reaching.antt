@@ -8,9 +8,9 @@ use lib.ListN.{getD}
 use Rattle.sets.specs.Sets.{has, union, below}
 use Rattle.tree.specs.Tree.{fresh}
 use Rattle.tree.specs.Refusals.{accepted}
-use Rattle.group.specs.declared.State.{State}
-use Rattle.group.specs.Order.{event}
-use Rattle.group.specs.Starting.{started}
+use Rattle.state.specs.declared.State.{State}
+use Rattle.state.specs.Starting.{started}
+use Rattle.group.specs.Events.{event}
 
 -- A run of the group: from an accepted start of size n, by accepted events.
 pub data Reaches (anc : ℕ → ℕ) (n : ℕ) : State → Type 0 where

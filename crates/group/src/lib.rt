@@ -1,56 +1,20 @@
-// The group: ranks, deaths, messages in flight, events. Entry points for callers are start and event; they refuse bad input and
-// require nothing.
-mod events;
-mod net;
-mod order;
-mod parts;
-mod refusing;
-mod starting;
-
-pub use events::buried;
-pub use events::forward;
-pub use events::plan_event;
-pub use events::step;
-pub use events::subject;
-pub use net::at;
-pub use net::post;
-pub use net::take_out;
-pub use order::event;
-pub use parts::join;
-pub use parts::tables_of;
-use rank::Acted;
+// The group: one event on a state handed in. The entry point for callers is event; it refuses bad input and requires nothing.
+use net::Joined;
+use plans::Plan;
 use rank::Message;
-use rank::Rank;
-pub use starting::start;
-
-// The group record: its size, the dead, the messages in flight and the ranks.
-pub struct Group {
-    pub n: u8,
-    pub dead: u64,
-    pub count: u8,
-    pub ranks: [Rank; 64],
-    pub net: [Message; 128],
-}
-
-// The group record with the tables beside it, one row for each rank's view.
-pub struct State {
-    pub group: Group,
-    pub tables: [[u8; 64]; 64],
-}
-
-// What an event will change: whether its message leaves, whether its rank dies, and what that rank does.
-pub struct Plan {
-    pub answer: u32,
-    pub leaves: bool,
-    pub dies: bool,
-    pub acted: Acted,
-}
-
-// The messages in flight after some have joined.
-pub struct Joined {
-    pub net: [Message; 128],
-    pub count: u8,
-}
+use state::Group;
+use state::State;
+ghost use mathlib.Core.Path.{_≡_};
+ghost use mathlib.Core.Bool.{cond, true};
+ghost use Prim.Native.Nat.{_+_, _-_, _<_, _≤_};
+ghost use lib.ListN.{take};
+ghost use Rattle.sets.specs.Sets.{add};
+ghost use Rattle.tree.specs.Tree.{flat};
+ghost use Rattle.rank.specs.Sends.{size};
+ghost use Rattle.net.specs.Net.{padded, placed};
+ghost use Rattle.order.specs.Between.{InOrder};
+ghost use Rattle.group.specs.Events.{applied, event, planOf, posted, refused, stepped, subjectOf};
+ghost use Rattle.group.specs.Between.{Carriable};
 
 // The answer of event.
 pub struct Stepped {
@@ -60,8 +24,133 @@ pub struct Stepped {
     pub state: State,
 }
 
-// The answer of start.
-pub struct Started {
-    pub answer: u32,
-    pub state: State,
+// The dead set, with one rank more if it dies.
+pub fn buried(dead: u64, me: u8, dies: bool) -> u64
+    requires { ⌜ me < 64 ⌝ }
+    ensures { λ t. ⌜ t ≡ cond dies (add dead me) dead ⌝ }
+{
+    if dies {
+        return sets::with(dead, me);
+    }
+    dead
+}
+
+// The rank that an event is about.
+fn subject_of(s: State, kind: u32, a: u32) -> u8
+    ensures { λ t. ⌜ t ≡ subjectOf s kind a ⌝ }
+{
+    let g = s.group;
+    let net = g.net;
+    plans::subject(g.n, kind, a, net::at(net, a))
+}
+
+// What an event on a state in order will change.
+fn plan_of(s: State, kind: u32, a: u32, b: u32) -> Plan
+    requires { ⌜ InOrder flat s ⌝ }
+    ensures { λ t. ⌜ t ≡ planOf flat s kind a b ⌝ }
+{
+    let g = s.group;
+    let net = g.net;
+    let m = net::at(net, a);
+    let me = plans::subject(g.n, kind, a, m);
+    let ranks = g.ranks;
+    let tables = state::tables_of(s);
+    plans::plan_event(
+        g.n,
+        g.dead,
+        g.count,
+        kind,
+        a,
+        b,
+        m,
+        me,
+        ranks[me as usize],
+        tables[me as usize],
+    )
+}
+
+// The list after a plan: a message has left, if one leaves, and two sends have joined.
+pub fn post(net: [Message; 128], count: u8, place: u32, me: u8, p: Plan) -> Joined
+    requires { ⌜ net ≡ padded (take count net) ⌝ }
+    requires { ⌜ count ≤ 128 ⌝ }
+    requires { ⌜ (p .leaves ≡ true → place < count) ⌝ }
+    requires { ⌜ count + size (p .acted .first) + size (p .acted .second) - cond (p .leaves) 1 0 ≤ 128 ⌝ }
+    ensures { λ r. ⌜ r ≡ placed (posted (take count net) place me p) ⌝ }
+{
+    let acted = p.acted;
+    let first = acted.first;
+    let second = acted.second;
+    net::forward(net, count, place, me, p.leaves, first, second)
+}
+
+// Carries an accepted plan out: one rank's record and row, the dead set and the list.
+fn carry(s: State, place: u32, me: u8, p: Plan) -> State
+    requires { ⌜ Carriable s place me p ⌝ }
+    ensures { λ t. ⌜ t ≡ applied s place me p ⌝ }
+{
+    let g = s.group;
+    let acted = p.acted;
+    let net = g.net;
+    let after = post(net, g.count, place, me, p);
+    let messages = after.net;
+    let mut ranks = g.ranks;
+    let mut tables = state::tables_of(s);
+    let rank = acted.rank;
+    let row = acted.row;
+    ranks[me as usize] = rank;
+    tables[me as usize] = row;
+    let group = Group {
+        n: g.n,
+        dead: buried(g.dead, me, p.dies),
+        count: after.count,
+        ranks,
+        net: messages,
+    };
+    state::join(group, tables)
+}
+
+// A refused event hands back the state as it came.
+fn refused(answer: u32, s: State) -> Stepped
+    ensures { λ t. ⌜ t ≡ refused answer s ⌝ }
+{
+    Stepped {
+        answer,
+        sent: 0,
+        moved: 0,
+        state: s,
+    }
+}
+
+// One event on a state in order.
+pub fn step(s: State, kind: u32, a: u32, b: u32) -> Stepped
+    requires { ⌜ InOrder flat s ⌝ }
+    ensures { λ t. ⌜ t ≡ stepped flat s kind a b ⌝ }
+{
+    let p = plan_of(s, kind, a, b);
+    if p.answer != 0 {
+        return refused(p.answer, s);
+    }
+    let acted = p.acted;
+    let first = acted.first;
+    let second = acted.second;
+    Stepped {
+        answer: 0,
+        sent: sets::size(first.to) as u32 + sets::size(second.to) as u32,
+        moved: acted.moved,
+        state: carry(s, a, subject_of(s, kind, a), p),
+    }
+}
+
+// Entry point: one event on a state handed in. Refuses with 1 to 11.
+pub fn event(s: State, kind: u32, a: u32, b: u32) -> Stepped
+    ensures { λ t. ⌜ t ≡ event flat s kind a b ⌝ }
+{
+    let g = s.group;
+    if tree::wrong_size(g.n as u32) {
+        return refused(1, s);
+    }
+    if !order::in_order(s) {
+        return refused(2, s);
+    }
+    step(s, kind, a, b)
 }

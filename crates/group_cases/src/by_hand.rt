@@ -1,18 +1,18 @@
 // Changes to a state by hand.
-use group::State;
 use rank::Message;
 use rank::Rank;
+use state::State;
 
 pub fn with_dead(s: State, dead: u64) -> State {
     let mut g = s.group;
     g.dead = dead;
-    group::join(g, group::tables_of(s))
+    state::join(g, state::tables_of(s))
 }
 
 pub fn with_count(s: State, count: u8) -> State {
     let mut g = s.group;
     g.count = count;
-    group::join(g, group::tables_of(s))
+    state::join(g, state::tables_of(s))
 }
 
 pub fn rank_of(s: State, k: u8) -> Rank {
@@ -26,17 +26,17 @@ pub fn with_rank(s: State, k: u8, r: Rank) -> State {
     let mut ranks = g.ranks;
     ranks[(k % 64) as usize] = r;
     g.ranks = ranks;
-    group::join(g, group::tables_of(s))
+    state::join(g, state::tables_of(s))
 }
 
 // The entry for rank i in the row of rank k.
 pub fn with_entry(s: State, k: u8, i: u8, parent: u8) -> State {
-    let mut tables = group::tables_of(s);
+    let mut tables = state::tables_of(s);
     let mut row = tables[(k % 64) as usize];
     row[(i % 64) as usize] = parent;
     tables[(k % 64) as usize] = row;
     let g = s.group;
-    group::join(g, tables)
+    state::join(g, tables)
 }
 
 pub fn message(kind: u8, from: u8, to: u8, word: u32) -> Message {
@@ -53,7 +53,7 @@ pub fn with_message(s: State, place: u8, m: Message) -> State {
     let mut net = g.net;
     net[(place % 128) as usize] = m;
     g.net = net;
-    group::join(g, group::tables_of(s))
+    state::join(g, state::tables_of(s))
 }
 
 fn copies(m: Message) -> [Message; 128] {
@@ -66,5 +66,5 @@ pub fn with_copies(s: State, m: Message) -> State {
     let net = copies(m);
     g.net = net;
     g.count = 128;
-    group::join(g, group::tables_of(s))
+    state::join(g, state::tables_of(s))
 }

@@ -4,7 +4,7 @@ use super::show::flight;
 use super::show::rank_line;
 use super::show::start;
 use super::show::text;
-use group::State;
+use state::State;
 
 // Three ranks enter with 7, 6 and 5; 1 reports to 0, which decides 4 and tells 1.
 fn decided() -> State {

@@ -6,7 +6,7 @@ use super::show::line;
 use super::show::number;
 use super::show::start;
 use super::show::text;
-use group::State;
+use state::State;
 
 // A run of events that prints the refused ones and counts the others.
 struct Run {

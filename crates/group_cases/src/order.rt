@@ -3,11 +3,11 @@ use super::by_hand;
 use super::show::event;
 use super::show::quiet;
 use super::show::text;
-use group::State;
+use state::State;
 
 // Three ranks; 2 has entered and its UP to 1 is at place 0; 0 is dead, and nobody has been told.
 fn base() -> State {
-    let r = group::start(3);
+    let r = state::start(3);
     let mut s = r.state;
     s = quiet(s, 1, 2, 7);
     quiet(s, 3, 0, 0)

@@ -1,8 +1,8 @@
 // What the cases print, and the events that they run.
-use group::State;
 use group::Stepped;
 use libc::STDOUT_FILENO;
 use rank::Rank;
+use state::State;
 
 pub fn text(bytes: &[u8]) {
     io::write_all(STDOUT_FILENO, bytes);
@@ -14,7 +14,7 @@ pub fn number(n: u32) {
 
 // A start: its size and its answer.
 pub fn start(n: u32) -> State {
-    let r = group::start(n);
+    let r = state::start(n);
     text(b"start ");
     number(n);
     text(b" -> ");

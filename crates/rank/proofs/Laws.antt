@@ -2,10 +2,9 @@
 pub mod Acting
 pub mod Cases
 pub mod Keeping
-pub mod Ordering
 pub mod Letters
 pub mod Knowing
-pub mod Settling
-pub mod Turning
-pub mod Uttering
-pub mod Speaking
+pub mod SettleTurn
+pub mod RuleTurns
+pub mod SettleSpeech
+pub mod RuleSpeeches

@@ -2,6 +2,4 @@ pub mod Words
 pub mod Records
 pub mod Sends
 pub mod Rules
-pub mod Order
-pub mod Turns
-pub mod Speech
+pub mod Between

@@ -1,11 +1,10 @@
 -- What a rule sends. A send goes to a set of ranks, in ascending order of receiver; the sends of a rule go out in the order written.
 use Prim.Native.Nat.{ℕ}
-use mathlib.Core.List.{List, map, _++_}
-use Rattle.sets.specs.Sets.{has, only, listed}
+use mathlib.Core.List.{List, map}
+use Rattle.sets.specs.Sets.{has, only, listed, count}
 use Rattle.rank.specs.declared.Rank.{Rank}
 use Rattle.rank.specs.declared.Send.{Send}
 use Rattle.rank.specs.declared.Message.{Message}
-use Rattle.rank.specs.declared.Acted.{Acted}
 use Rattle.rank.specs.Words.{up, down, ask}
 
 -- Nothing is sent.
@@ -31,5 +30,6 @@ letter me s q = record { kind = s .kind; from = me; to = q; word = s .word }
 unfoldable pub letters : ℕ → Send → List Message
 letters me s = map (letter me s) (listed (has (s .to)) 64)
 
-unfoldable pub sent : ℕ → Acted → List Message
-sent me a = letters me (a .first) ++ letters me (a .second)
+-- How many messages a send makes.
+abbrev pub size : Send → ℕ
+size s = count (has (s .to)) 64

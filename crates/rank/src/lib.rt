@@ -2,14 +2,15 @@
 // A record goes in by value and the new record comes back, with its row of the tables, what it sends, and moved.
 ghost use mathlib.Core.Path.{_≡_};
 ghost use Prim.Native.Nat.{_<_, _≤_};
-ghost use mathlib.Core.Bool.{false};
-ghost use Rattle.sets.specs.Sets.{has};
+ghost use mathlib.Core.Bool.{_&&_, false};
+ghost use lib.Dec.{eqb};
+ghost use Rattle.sets.specs.Sets.{has, none};
 ghost use Rattle.tree.specs.Tree.{flat};
-ghost use Rattle.rank.specs.Words.{combine};
-ghost use Rattle.rank.specs.Records.{awaiting, freshRank, viewing};
+ghost use Rattle.rank.specs.Words.{combine, gathering, waiting};
+ghost use Rattle.rank.specs.Records.{awaiting, childrenOf, freshRank, parentOf, viewing};
 ghost use Rattle.rank.specs.Sends.{asks, reports, silent, tells};
-ghost use Rattle.rank.specs.Rules.{asked, bereaved, deciding, entering, noticing, orphaned, saying, settling, takingAsk, takingDown, takingUp};
-ghost use Rattle.rank.specs.Order.{Kept, inOrder, proper};
+ghost use Rattle.rank.specs.Rules.{asked, bereaved, deciding, entering, inPhase, inheriting, noticing, orphaned, saying, settled, settling, takingAsk, takingDown, takingUp};
+ghost use Rattle.rank.specs.Between.{FreshRow};
 
 // Phases.
 pub const OUTSIDE: u8 = 0;
@@ -110,40 +111,10 @@ impl Send {
     }
 }
 
-// Whether a set lies within n and leaves out its own rank.
-fn proper(n: u8, me: u8, w: u64) -> bool
-    requires { ⌜ n ≤ 64 ⌝ }
-    requires { ⌜ me < n ⌝ }
-    ensures { λ t. ⌜ t ≡ proper n me w ⌝ }
-{
-    (sets::minus(w, sets::below(n)) == 0) & !sets::member(w, me)
-}
-
 impl Rank {
-    // Whether this record and its row are in order.
-    pub fn in_order(self, n: u8, me: u8, row: [u8; 64]) -> bool
-        requires { ⌜ n ≤ 64 ⌝ }
-        requires { ⌜ me < n ⌝ }
-        ensures { λ t. ⌜ t ≡ inOrder flat n me self row ⌝ }
-    {
-        if !tree::same(row, tree::fresh(n, self.marks)) {
-            return false;
-        }
-        let parent = row[me as usize];
-        let awaited = sets::minus(tree::children_of(n, self.marks, row, me), self.heard);
-        let sets_in = proper(n, me, self.marks)
-            & proper(n, me, self.heard)
-            & proper(n, me, self.awaited)
-            & proper(n, me, self.owed);
-        let gathers = !(self.phase == GATHERING) | !(self.awaited == 0);
-        let waits = !(self.phase == WAITING) | !(parent == sets::NONE);
-        let unless = (self.phase == DECIDED) | (self.result == 0);
-        sets_in & (self.awaited == awaited) & gathers & waits & unless & (self.phase <= DECIDED)
-    }
-
     // A rank that has done nothing yet.
     pub fn fresh(n: u8, me: u8, row: [u8; 64]) -> Rank
-        requires { ⌜ Kept flat n me (freshRank flat n me) row ⌝ }
+        requires { ⌜ FreshRow flat n me (freshRank flat n me) row ⌝ }
         ensures { λ r. ⌜ r ≡ freshRank flat n me ⌝ }
     {
         Rank {
@@ -171,7 +142,7 @@ impl Rank {
 
     // Result x, phase decided, DOWN x to every unmarked rank in children or owed.
     fn decide(mut self, n: u8, me: u8, row: [u8; 64], x: u32) -> Said
-        requires { ⌜ Kept flat n me self row ⌝ }
+        requires { ⌜ FreshRow flat n me self row ⌝ }
         ensures { λ r. ⌜ r ≡ deciding flat n me x self ⌝ }
     {
         let children = tree::children_of(n, self.marks, row, me);
@@ -184,46 +155,42 @@ impl Rank {
         }
     }
 
-    // Decides or reports where nobody is awaited any more; `first` is what the rule has sent before.
-    pub fn settle(mut self, n: u8, me: u8, row: [u8; 64], first: Send, moved: u32) -> Acted
-        requires { ⌜ Kept flat n me self row ⌝ }
-        ensures { λ r. ⌜ r ≡ settling flat n me (saying self first) moved ⌝ }
+    // Decides or reports, where it gathers and nobody is awaited any more.
+    fn settled(mut self, n: u8, me: u8, row: [u8; 64]) -> Said
+        requires { ⌜ FreshRow flat n me self row ⌝ }
+        ensures { λ r. ⌜ r ≡ settled flat n me self ⌝ }
     {
         if self.phase != GATHERING {
-            return Acted {
+            return Said {
                 rank: self,
-                row,
-                first,
-                second: Send::silent(),
-                moved,
+                send: Send::silent(),
             };
         }
         if self.awaited != 0 {
-            return Acted {
+            return Said {
                 rank: self,
-                row,
-                first,
-                second: Send::silent(),
-                moved,
+                send: Send::silent(),
             };
         }
         let parent = row[me as usize];
         if parent == sets::NONE {
-            let end = self.decide(n, me, row, self.word);
-            let rank = end.rank;
-            let second = end.send;
-            return Acted {
-                rank,
-                row,
-                first,
-                second,
-                moved,
-            };
+            return self.decide(n, me, row, self.word);
         }
-        let second = self.report(parent);
+        let send = self.report(parent);
         self.phase = WAITING;
+        Said { rank: self, send }
+    }
+
+    // Settles; `first` is what the rule has sent before.
+    pub fn settle(self, n: u8, me: u8, row: [u8; 64], first: Send, moved: u32) -> Acted
+        requires { ⌜ FreshRow flat n me self row ⌝ }
+        ensures { λ r. ⌜ r ≡ settling flat n me (saying self first) moved ⌝ }
+    {
+        let end = self.settled(n, me, row);
+        let rank = end.rank;
+        let second = end.send;
         Acted {
-            rank: self,
+            rank,
             row,
             first,
             second,
@@ -233,7 +200,7 @@ impl Rank {
 
     // The rank enters with word w.
     pub fn enter(mut self, n: u8, me: u8, row: [u8; 64], w: u32) -> Acted
-        requires { ⌜ Kept flat n me self row ⌝ }
+        requires { ⌜ FreshRow flat n me self row ⌝ }
         ensures { λ r. ⌜ r ≡ entering flat n me w self ⌝ }
     {
         self.word = combine(self.word, w);
@@ -243,7 +210,7 @@ impl Rank {
 
     // UP x from q.
     pub fn up(mut self, n: u8, me: u8, row: [u8; 64], q: u8, x: u32) -> Acted
-        requires { ⌜ Kept flat n me self row ⌝ }
+        requires { ⌜ FreshRow flat n me self row ⌝ }
         requires { ⌜ self .awaited ≡ awaiting flat n me (self .marks) (self .heard) ⌝ }
         requires { ⌜ q < n ⌝ }
         ensures { λ r. ⌜ r ≡ takingUp flat n me q x self ⌝ }
@@ -260,7 +227,7 @@ impl Rank {
 
     // DOWN x.
     pub fn down(self, n: u8, me: u8, row: [u8; 64], x: u32) -> Acted
-        requires { ⌜ Kept flat n me self row ⌝ }
+        requires { ⌜ FreshRow flat n me self row ⌝ }
         ensures { λ r. ⌜ r ≡ takingDown flat n me x self ⌝ }
     {
         if (self.phase == GATHERING) | (self.phase == WAITING) {
@@ -286,7 +253,7 @@ impl Rank {
 
     // A new view, with its table.
     fn view(mut self, n: u8, me: u8, marks: u64, row: [u8; 64]) -> Rank
-        requires { ⌜ Kept flat n me (viewing flat n me marks self) row ⌝ }
+        requires { ⌜ FreshRow flat n me (viewing flat n me marks self) row ⌝ }
         ensures { λ r. ⌜ r ≡ viewing flat n me marks self ⌝ }
     {
         self.marks = marks;
@@ -296,7 +263,7 @@ impl Rank {
 
     // ASK from q: every rank below q is dead.
     pub fn ask(self, n: u8, me: u8, row: [u8; 64], q: u8) -> Acted
-        requires { ⌜ Kept flat n me self row ⌝ }
+        requires { ⌜ FreshRow flat n me self row ⌝ }
         requires { ⌜ q < n ⌝ }
         ensures { λ r. ⌜ r ≡ takingAsk flat n me q self ⌝ }
     {
@@ -310,7 +277,7 @@ impl Rank {
 
     // What an ASK from q means to a rank that has marked all below q: DOWN if decided, else UP if q is now the parent.
     fn answer(mut self, n: u8, me: u8, row: [u8; 64], q: u8) -> Said
-        requires { ⌜ Kept flat n me self row ⌝ }
+        requires { ⌜ FreshRow flat n me self row ⌝ }
         requires { ⌜ q < n ⌝ }
         ensures { λ r. ⌜ r ≡ asked flat n me q self ⌝ }
     {
@@ -336,7 +303,7 @@ impl Rank {
 
     // Waiting, and the parent died: reports to the new parent, or gathers again as the root and asks all children.
     fn orphan(mut self, n: u8, me: u8, row: [u8; 64]) -> Said
-        requires { ⌜ Kept flat n me self row ⌝ }
+        requires { ⌜ FreshRow flat n me self row ⌝ }
         ensures { λ r. ⌜ r ≡ orphaned flat n me self ⌝ }
     {
         let parent = row[me as usize];
@@ -358,7 +325,7 @@ impl Rank {
 
     // Told that q is dead.
     pub fn notice(self, n: u8, me: u8, row: [u8; 64], q: u8) -> Acted
-        requires { ⌜ Kept flat n me self row ⌝ }
+        requires { ⌜ FreshRow flat n me self row ⌝ }
         requires { ⌜ q < n ⌝ }
         ensures { λ r. ⌜ r ≡ noticing flat n me q self ⌝ }
     {
@@ -379,32 +346,55 @@ impl Rank {
         rank.settle(n, me, table, said.send, m.moved)
     }
 
+    // Whether it waits, and q was its parent.
+    fn lost_parent(self, n: u8, me: u8, row: [u8; 64], q: u8) -> bool
+        requires { ⌜ FreshRow flat n me self row ⌝ }
+        ensures { λ t. ⌜ t ≡ inPhase waiting self && eqb (parentOf flat me self) q ⌝ }
+    {
+        (self.phase == WAITING) & (row[me as usize] == q)
+    }
+
+    // Whether it gathers without a parent, and q was its child.
+    fn lost_child(self, n: u8, me: u8, row: [u8; 64], q: u8) -> bool
+        requires { ⌜ FreshRow flat n me self row ⌝ }
+        requires { ⌜ q < n ⌝ }
+        requires { ⌜ has (self .marks) q ≡ false ⌝ }
+        ensures { λ t. ⌜ t ≡ inPhase gathering self && eqb (parentOf flat me self) none && has (childrenOf flat n me self) q ⌝ }
+    {
+        (self.phase == GATHERING) & (row[me as usize] == sets::NONE) & (row[q as usize] == me)
+    }
+
     // What the death of q means to this rank: `seen` and `table` are the rank and its row with q marked.
     fn bereave(self, n: u8, me: u8, row: [u8; 64], q: u8, seen: Rank, table: [u8; 64]) -> Said
-        requires { ⌜ Kept flat n me self row ⌝ }
-        requires { ⌜ Kept flat n me seen table ⌝ }
+        requires { ⌜ FreshRow flat n me self row ⌝ }
+        requires { ⌜ FreshRow flat n me seen table ⌝ }
         requires { ⌜ q < n ⌝ }
         requires { ⌜ has (self .marks) q ≡ false ⌝ }
         ensures { λ r. ⌜ r ≡ bereaved flat n me q self seen ⌝ }
     {
-        let was = row[me as usize];
-        if (self.phase == WAITING) & (was == q) {
+        if self.lost_parent(n, me, row, q) {
             return seen.orphan(n, me, table);
         }
-        let linked = row[q as usize];
-        if (self.phase == GATHERING) & (was == sets::NONE) & (linked == me) {
-            let gained = sets::meet(
-                tree::children_of(n, seen.marks, table, me),
-                tree::children_of(n, self.marks, row, q),
-            );
-            return Said {
-                rank: seen,
-                send: Send::ask(gained),
-            };
+        if self.lost_child(n, me, row, q) {
+            return self.inherit(n, me, row, q, seen, table);
         }
         Said {
             rank: seen,
             send: Send::silent(),
+        }
+    }
+
+    // Asks each child gained from q.
+    fn inherit(self, n: u8, me: u8, row: [u8; 64], q: u8, seen: Rank, table: [u8; 64]) -> Said
+        requires { ⌜ FreshRow flat n me self row ⌝ }
+        requires { ⌜ FreshRow flat n me seen table ⌝ }
+        ensures { λ r. ⌜ r ≡ inheriting flat n me q self seen ⌝ }
+    {
+        let children = tree::children_of(n, seen.marks, table, me);
+        let gained = sets::meet(children, tree::children_of(n, self.marks, row, q));
+        Said {
+            rank: seen,
+            send: Send::ask(gained),
         }
     }
 }

@@ -1,7 +1,5 @@
--- All that the crates above cite of a schedule.
-pub mod Files
+-- All that the crates above cite of a run.
 pub mod Runs
 pub mod Opening
-pub mod Writing
-pub mod Lines
 pub mod Ending
+pub mod Slices

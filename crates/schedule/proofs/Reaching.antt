@@ -6,16 +6,16 @@ use Prim.Native.Nat.{ℕ, zero, suc, _+_}
 use native.Mathlib.Omega.{arith}
 use Rattle.sets.proofs.Laws.Bools.{eq-or-ne}
 use Rattle.tree.specs.Tree.{flat}
-use Rattle.group.specs.declared.State.{State}
+use Rattle.state.specs.declared.State.{State}
+use Rattle.state.specs.Starting.{freshState}
+use Rattle.state.proofs.Laws.Starting.{started-small}
+use Rattle.order.specs.Between.{InOrder}
 use Rattle.group.specs.declared.Stepped.{Stepped}
-use Rattle.group.specs.Order.{Orderly}
-use Rattle.group.specs.Starting.{freshState}
 use Rattle.group.specs.Reaching.{Reaches, begun, next}
-use Rattle.group.proofs.Laws.Starting.{started-small}
 use Rattle.group.proofs.Laws.Stepping.{step-stays}
-use Rattle.group.proofs.Laws.Knowing.{event-steps-on}
-use Rattle.group.proofs.Demands.{reached-orderly}
-use Rattle.schedule.specs.Files.{byteAt, eventAt, eventsIn}
+use Rattle.group.proofs.Laws.Events.{event-steps-on}
+use Rattle.group.proofs.Demands.{reached-in-order}
+use Rattle.files.specs.Files.{byteAt, eventAt, eventsIn}
 use Rattle.schedule.specs.Runs.{Run, stepAt, written, played, acceptedRun, run}
 use Rattle.schedule.specs.Reaching.{eventOf, After, taken, left}
 use Rattle.schedule.specs.Reaching as Schedule
@@ -29,7 +29,7 @@ after-reaches anc file n k s (taken k′ s′ p z) = next s′ (eventAt file k�
 after-reaches anc file n k s (left k′ s′ p z) = after-reaches anc file n k′ s′ p
 
 -- A run's own step is the event on a state in order.
-step-is : (anc : ℕ → ℕ) (file : List ℕ) (k : ℕ) (s : State) → Orderly anc s → eventOf anc file k s ≡ stepAt anc file k s
+step-is : (anc : ℕ → ℕ) (file : List ℕ) (k : ℕ) (s : State) → InOrder anc s → eventOf anc file k s ≡ stepAt anc file k s
 unfolding eventOf stepAt
 step-is anc file k s o = event-steps-on anc s (eventAt file k .kind) (eventAt file k .a) (eventAt file k .b) o
 
@@ -41,7 +41,7 @@ after-step : (anc : ℕ → ℕ) (file : List ℕ) (n k : ℕ) (s : State) → A
 after-step anc file n k s p = go (eq-or-ne (stepAt anc file k s .answer) 0)
   where
     same : eventOf anc file k s ≡ stepAt anc file k s
-    same = step-is anc file k s (reached-orderly anc n s (after-reaches anc file n k s p))
+    same = step-is anc file k s (reached-in-order anc n s (after-reaches anc file n k s p))
 
     go : (stepAt anc file k s .answer ≡ 0) ⊎ (stepAt anc file k s .answer ≡ 0 → ⊥) → After anc file n (k + 1) (stepAt anc file k s .state)
     go (inl z) = subst (λ (x : Stepped). After anc file n (k + 1) (x .state)) same (taken k s p (ap (λ (x : Stepped). x .answer) same ∙ z))

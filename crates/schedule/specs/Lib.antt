@@ -1,6 +1,3 @@
-pub mod Files
 pub mod Runs
-pub mod Writing
-pub mod Listings
 pub mod Reaching
-pub mod Witnesses
+pub mod Samples

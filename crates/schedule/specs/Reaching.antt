@@ -4,11 +4,11 @@ use Prim.Native.Nat.{ℕ, _+_}
 use mathlib.Core.Path.{_≡_}
 use mathlib.Core.List.{List}
 use Rattle.tree.specs.Refusals.{accepted}
-use Rattle.group.specs.declared.State.{State}
+use Rattle.state.specs.declared.State.{State}
+use Rattle.state.specs.Starting.{started}
 use Rattle.group.specs.declared.Stepped.{Stepped}
-use Rattle.group.specs.Order.{event}
-use Rattle.group.specs.Starting.{started}
-use Rattle.schedule.specs.Files.{eventAt}
+use Rattle.group.specs.Events.{event}
+use Rattle.files.specs.Files.{eventAt}
 
 -- The event at place k, on a state handed in.
 unfoldable pub eventOf : (ℕ → ℕ) → List ℕ → ℕ → State → Stepped

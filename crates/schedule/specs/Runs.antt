@@ -5,13 +5,13 @@ use mathlib.Core.List.{List}
 use lib.Dec.{ltb}
 use lib.ListN.{length, set}
 use Rattle.tree.specs.Refusals.{accepted}
-use Rattle.group.specs.declared.State.{State}
+use Rattle.state.specs.declared.State.{State}
+use Rattle.state.specs.Starting.{freshState, emptyState}
 use Rattle.group.specs.declared.Stepped.{Stepped}
 use Rattle.group.specs.Events.{stepped}
-use Rattle.group.specs.Starting.{freshState, emptyState}
-use Rattle.schedule.specs.declared.Header.{Header}
-use Rattle.schedule.specs.declared.Header.the-variants.{Good, Short, WrongMark, WrongVersion, WrongSize, TooLong, Broken}
-use Rattle.schedule.specs.Files.{eventAt, header, numberOf}
+use Rattle.files.specs.declared.Header.{Header}
+use Rattle.files.specs.declared.Header.the-variants.{Good, NoHeader, WrongMark, WrongVersion, WrongSize, TooLong, Broken}
+use Rattle.files.specs.Files.{eventAt, header, numberOf}
 
 -- Answer, sent and moved of the event at place k, in a slice of three numbers an event.
 unfoldable pub written : List ℕ → ℕ → ℕ → ℕ → ℕ → List ℕ
@@ -50,7 +50,7 @@ acceptedRun e = record { answer = accepted; state = e .state; answers = e .answe
 unfoldable pub opened : (ℕ → ℕ) → List ℕ → List ℕ → Header → Run
 opened anc file out (Good n events) =
     cond (ltb (length out) (3 * events)) (refusedRun 25 out) (acceptedRun (played anc file events 0 (freshState anc n) out))
-opened anc file out Short = refusedRun (numberOf Short) out
+opened anc file out NoHeader = refusedRun (numberOf NoHeader) out
 opened anc file out WrongMark = refusedRun (numberOf WrongMark) out
 opened anc file out WrongVersion = refusedRun (numberOf WrongVersion) out
 opened anc file out WrongSize = refusedRun (numberOf WrongSize) out

@@ -1,8 +1,8 @@
 -- `main` is safe: a report fits the buffer that it is lent. Assumes nothing.
 use mathlib.Core.Path.{sym}
 use lib.Seq.{length-take-le}
-use Rattle.schedule.proofs.Laws.Ending.{report-fits}
 use borrow.Author.Needs.{needs}
+use Rattle.listing.proofs.Laws.Reporting.{report-fits}
 use Rattle.agr.proofs.main.Statement.{statement}
 use Rattle.agr.proofs.main.Tie as tie
 

@@ -1,8 +1,8 @@
 -- `print` is safe: a report fits the buffer that it is lent. Assumes nothing.
 use mathlib.Core.Path.{sym}
 use lib.Seq.{length-take-le}
-use Rattle.schedule.proofs.Laws.Ending.{report-fits}
 use borrow.Author.Needs.{needs}
+use Rattle.listing.proofs.Laws.Reporting.{report-fits}
 use Rattle.agr_cases.proofs.print.Statement.{statement}
 use Rattle.agr_cases.proofs.print.Tie as tie
 

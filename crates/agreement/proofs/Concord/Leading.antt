@@ -7,9 +7,10 @@ use Prim.Native.Nat.{ℕ, _≤_, _<_}
 use native.Mathlib.Omega.{arith}
 use Rattle.sets.specs.Sets.{has}
 use Rattle.sets.proofs.Laws.Bools.{clash, lt-or-le, eq-or-ne}
-use Rattle.tree.specs.Relations.{Above, Ancestry, Chained, Under, MayLead}
+use Rattle.tree.specs.Relations.{Above, Ancestry, Chained}
+use Rattle.tree.proofs.Kin.{Under, MayLead}
 use Rattle.tree.proofs.Laws.Children.{under-trans, under-le, under-chain}
-use Rattle.agreement.proofs.Concord.Accord.{MayTell}
+use Rattle.agreement.proofs.Concord.Invariant.{MayTell}
 
 -- of two numbers one is smaller, or they are equal
 order : (a b : ℕ) → (a < b) ⊎ ((a ≡ b) ⊎ (b < a))

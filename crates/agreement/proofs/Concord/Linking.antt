@@ -8,23 +8,24 @@ use native.Mathlib.Omega.{arith}
 use Rattle.sets.specs.Sets.{has}
 use Rattle.sets.proofs.Laws.Bools.{eq-or-ne}
 use Rattle.tree.specs.Tree.{parent}
-use Rattle.tree.specs.Relations.{Ancestry, MayLead}
+use Rattle.tree.specs.Relations.{Ancestry}
+use Rattle.tree.proofs.Kin.{MayLead}
 use Rattle.tree.proofs.Laws.Parents.{parent-leads, leads-more}
 use Rattle.tree.proofs.Laws.Children.{child-o}
 use Rattle.rank.specs.declared.Rank.{Rank}
 use Rattle.rank.specs.declared.Send.{Send}
 use Rattle.rank.specs.Words.{decided, up, down}
-use Rattle.rank.specs.Turns.{Says, Leads}
-use Rattle.rank.specs.Speech.{SaysWord, Sender}
-use Rattle.rank.proofs.Laws.Uttering.{some-word, any-word}
-use Rattle.group.specs.declared.State.{State}
-use Rattle.group.specs.States.{rankAt}
-use Rattle.group.specs.Moves.{Flies, Turns, Speaks}
+use Rattle.rank.proofs.Turn.{Says, Leads}
+use Rattle.rank.proofs.Speech.{SaysWord, Sender}
+use Rattle.rank.proofs.Laws.SettleSpeech.{some-word, any-word}
+use Rattle.state.specs.declared.State.{State}
+use Rattle.state.specs.States.{rankAt}
+use Rattle.group.proofs.Moves.{Flies, ByRank, ByRankInWords}
 use Rattle.agreement.proofs.Living.{Truthful, taken}
-use Rattle.agreement.proofs.Concord.Accord.{MayTell, Accord}
+use Rattle.agreement.proofs.Concord.Invariant.{MayTell, Concord}
 
-module _ {anc : ℕ → ℕ} {n : ℕ} {Entry : ℕ → ℕ → Type 0} {s s′ : State} {p kind q v : ℕ} {f g : Send} (tree : Ancestry anc) (small : n ≤ 64) (t : Turns anc n s s′ p kind q f g) (u : Speaks anc n Entry s s′ p kind q v f g)
-    (true′ : Truthful n s′) (inv : Accord anc n s) where
+module _ {anc : ℕ → ℕ} {n : ℕ} {Entry : ℕ → ℕ → Type 0} {s s′ : State} {p kind q v : ℕ} {f g : Send} (tree : Ancestry anc) (small : n ≤ 64) (t : ByRank anc n s s′ p kind q f g) (u : ByRankInWords anc n Entry s s′ p kind q v f g)
+    (true′ : Truthful n s′) (inv : Concord anc n s) where
   pub own-marks : (k : ℕ) → has (rankAt s′ p .marks) k ≡ true → has (s .group .dead) k ≡ true
   own-marks k h = subst (λ (w : ℕ). has w k ≡ true) (t .dead-stays) (true′ p k (t .own) h)
 

@@ -4,26 +4,26 @@ use Prim.Native.Nat.{ℕ, _≤_}
 use native.Mathlib.Omega.{arith}
 use mathlib.Core.Logic.{inl, inr}
 use Rattle.tree.specs.Relations.{Ancestry, Chained}
-use Rattle.group.specs.declared.State.{State}
-use Rattle.group.specs.Starting.{freshState}
+use Rattle.state.specs.declared.State.{State}
+use Rattle.state.specs.Starting.{freshState}
 use Rattle.group.specs.Reaching.{Reaches}
-use Rattle.group.specs.Moves.{Move, turns, fades, Entry}
+use Rattle.group.proofs.Moves.{Move, by-rank, by-loss, Entry}
 use Rattle.agreement.proofs.Living.{Truthful}
 use Rattle.agreement.proofs.Running.{quiet, all-outside, none-heard, none-owed, every-reached}
-use Rattle.agreement.proofs.Concord.Accord.{Verdict, Accord}
-use Rattle.agreement.proofs.Concord.Turning.{turn-agrees}
-use Rattle.agreement.proofs.Concord.Fading.{fades-agree}
+use Rattle.agreement.proofs.Concord.Invariant.{Verdict, Concord}
+use Rattle.agreement.proofs.Concord.ByRank.{turn-agrees}
+use Rattle.agreement.proofs.Concord.ByLoss.{fades-agree}
 
-pub a-move-agrees : (anc : ℕ → ℕ) → Ancestry anc → Chained anc → (n : ℕ) → n ≤ 64 → (Entry : ℕ → ℕ → Type 0) (s s′ : State) → Truthful n s′ → Accord anc n s → Move anc n Entry s s′ → Accord anc n s′
-a-move-agrees anc tree chain n small Entry s s′ true′ inv (turns p kind q v f g t u) = turn-agrees anc tree chain n small Entry s s′ p kind q v f g t u true′ inv
-a-move-agrees anc tree chain n small Entry s s′ true′ inv (fades t) = fades-agree anc n s s′ t inv
+pub a-move-agrees : (anc : ℕ → ℕ) → Ancestry anc → Chained anc → (n : ℕ) → n ≤ 64 → (Entry : ℕ → ℕ → Type 0) (s s′ : State) → Truthful n s′ → Concord anc n s → Move anc n Entry s s′ → Concord anc n s′
+a-move-agrees anc tree chain n small Entry s s′ true′ inv (by-rank p kind q v f g t u) = turn-agrees anc tree chain n small Entry s s′ p kind q v f g t u true′ inv
+a-move-agrees anc tree chain n small Entry s s′ true′ inv (by-loss t) = fades-agree anc n s s′ t inv
 
 module _ (anc : ℕ → ℕ) (n : ℕ) (small : n ≤ 64) where
   no-verdict : (w : ℕ) → Verdict anc n (freshState anc n) w → ⊥
   no-verdict w (inl (i, l, e, r)) = omega (arith, all-outside anc n small i (l .0))
   no-verdict w (inr (b, x, a)) = quiet anc n small _ b x (a .0 .flies)
 
-  fresh-agrees : Accord anc n (freshState anc n)
+  fresh-agrees : Concord anc n (freshState anc n)
   fresh-agrees = record {
     report-leads = λ x b h. absurd (quiet anc n small _ x b h);
     heard-leads = λ x b l h. absurd (none-heard anc n small b x l h);
@@ -33,5 +33,5 @@ module _ (anc : ℕ → ℕ) (n : ℕ) (small : n ≤ 64) where
     one-result = λ w w′ h h′. absurd (no-verdict w h);
   }
 
-pub reached-agrees : (anc : ℕ → ℕ) → Ancestry anc → Chained anc → (n : ℕ) (s : State) → Reaches anc n s → Accord anc n s
-reached-agrees anc tree chain n = every-reached anc tree n (Accord anc n) (fresh-agrees anc n) (λ E s s′ small true′ inv m. a-move-agrees anc tree chain n small E s s′ true′ inv m)
+pub reached-agrees : (anc : ℕ → ℕ) → Ancestry anc → Chained anc → (n : ℕ) (s : State) → Reaches anc n s → Concord anc n s
+reached-agrees anc tree chain n = every-reached anc tree n (Concord anc n) (fresh-agrees anc n) (λ E s s′ small true′ inv m. a-move-agrees anc tree chain n small E s s′ true′ inv m)

@@ -13,31 +13,31 @@ use Rattle.sets.proofs.Laws.Members.{has-zero}
 use Rattle.tree.specs.Relations.{Ancestry, Chained}
 use Rattle.rank.specs.declared.Rank.{Rank}
 use Rattle.rank.specs.Words.{outside}
-use Rattle.rank.specs.Speech.{Enters, Hears, Keeps}
-use Rattle.group.specs.declared.State.{State}
-use Rattle.group.specs.States.{rankAt}
-use Rattle.group.specs.Order.{event}
-use Rattle.group.specs.Starting.{freshState, started}
+use Rattle.rank.proofs.Speech.{Enters, Hears, Keeps}
+use Rattle.state.specs.declared.State.{State}
+use Rattle.state.specs.States.{rankAt}
+use Rattle.state.specs.Starting.{freshState, started}
+use Rattle.state.proofs.Laws.Starting.{started-fresh}
+use Rattle.group.specs.Events.{event}
 use Rattle.group.specs.Reaching.{Reaches, begun, next}
-use Rattle.group.specs.Moves.{Move, turns, fades, Entry}
-use Rattle.group.proofs.Laws.Starting.{started-fresh}
+use Rattle.group.proofs.Moves.{Move, by-rank, by-loss, Entry}
 use Rattle.group.proofs.Laws.Following.{enters-from-outside}
-use Rattle.group.proofs.Demands.{reached-small, reached-orderly}
+use Rattle.group.proofs.Demands.{reached-small, reached-in-order}
 use Rattle.agreement.specs.Agreement.{isEntry, hasEntered, wordOf}
 use Rattle.agreement.proofs.Living.{Truthful}
 use Rattle.agreement.proofs.Running.{quiet, all-outside, all-ones, none-heard, reached-truthful, reached-moves}
-use Rattle.agreement.proofs.Coverage.Covering.{Entered, Own, Covering}
+use Rattle.agreement.proofs.Coverage.Invariant.{Entered, Own, Coverage}
 use Rattle.agreement.proofs.Coverage.Words.{andOf-none}
-use Rattle.agreement.proofs.Coverage.Turning.{turn-covers}
-use Rattle.agreement.proofs.Coverage.Fading.{fades-cover}
+use Rattle.agreement.proofs.Coverage.ByRank.{turn-covers}
+use Rattle.agreement.proofs.Coverage.ByLoss.{fades-cover}
 
 -- ---- every move
 
 module _ (anc : ℕ → ℕ) (n : ℕ) (Entry : ℕ → ℕ → Type 0) (s s′ : State) where
   -- a rank that has entered had entered, or enters with this move
   pub was-entered : Move anc n Entry s s′ → (i : ℕ) → Entered n s′ i → Entered n s i ⊎ ((v : ℕ) × Entry i v)
-  was-entered (fades t) i e = inl (e .0, subst (λ (r : Rank). r .phase ≡ outside → ⊥) (t .ranks-stay i) (e .1))
-  was-entered (turns p kind q v f g t u) i e = go (eq-or-ne i p)
+  was-entered (by-loss t) i e = inl (e .0, subst (λ (r : Rank). r .phase ≡ outside → ⊥) (t .ranks-stay i) (e .1))
+  was-entered (by-rank p kind q v f g t u) i e = go (eq-or-ne i p)
     where
       own : i ≡ p → Enters (Entry p v) v (rankAt s p) (rankAt s′ p) ⊎ (Hears kind q v (rankAt s p) (rankAt s′ p) ⊎ Keeps (rankAt s p) (rankAt s′ p)) → Entered n s i ⊎ ((w : ℕ) × Entry i w)
       own z (inl h) = inr (v, subst (λ (j : ℕ). Entry j v) (sym z) (h .entry))
@@ -50,9 +50,9 @@ module _ (anc : ℕ → ℕ) (n : ℕ) (Entry : ℕ → ℕ → Type 0) (s s′ 
 
 -- The words of ranks that had entered stay, and a rank that enters has its word.
 pub a-move-covers : (anc : ℕ → ℕ) → Ancestry anc → Chained anc → (n : ℕ) → n ≤ 64 → (Entry : ℕ → ℕ → Type 0) (s s′ : State) → Truthful n s′ → (words words′ : ℕ → ℕ)
-    → ((p v : ℕ) → Entry p v → words′ p ≡ v) → ((i : ℕ) → Entered n s i → words′ i ≡ words i) → Covering anc n words s → Move anc n Entry s s′ → Covering anc n words′ s′
-a-move-covers anc tree chain n small Entry s s′ true′ words words′ votes keeps inv (turns p kind q v f g t u) = turn-covers anc tree chain n small Entry s s′ p kind q v f g t u true′ words words′ (votes p v) keeps inv
-a-move-covers anc tree chain n small Entry s s′ true′ words words′ votes keeps inv (fades t) = fades-cover anc n s s′ t words words′ keeps inv
+    → ((p v : ℕ) → Entry p v → words′ p ≡ v) → ((i : ℕ) → Entered n s i → words′ i ≡ words i) → Coverage anc n words s → Move anc n Entry s s′ → Coverage anc n words′ s′
+a-move-covers anc tree chain n small Entry s s′ true′ words words′ votes keeps inv (by-rank p kind q v f g t u) = turn-covers anc tree chain n small Entry s s′ p kind q v f g t u true′ words words′ (votes p v) keeps inv
+a-move-covers anc tree chain n small Entry s s′ true′ words words′ votes keeps inv (by-loss t) = fades-cover anc n s s′ t words words′ keeps inv
 
 -- ---- a fresh group
 
@@ -62,7 +62,7 @@ module _ (anc : ℕ → ℕ) (n : ℕ) (small : n ≤ 64) (words : ℕ → ℕ) 
   nobody p l x (inr (lx, inl (c, h, k))) = none-heard anc n small p c l h
   nobody p l x (inr (lx, inr (h, k))) = omega (arith, all-outside anc n small p l)
 
-  fresh-covers : Covering anc n words (freshState anc n)
+  fresh-covers : Coverage anc n words (freshState anc n)
   fresh-covers = record {
     own-word = λ p l. record { members = 0; entered = λ i h. absurd (clash (has 0 i) h (has-zero i)); contains = λ i h. absurd (nobody p l i h); is-and = all-ones anc n small p l ∙ sym (andOf-none words n) };
     reports = λ q b w h. absurd (quiet anc n small _ q b (h .flies));
@@ -87,7 +87,7 @@ module _ (anc : ℕ → ℕ) (n : ℕ) (s : State) (kind a b : ℕ) (run : Reach
       again t =
           let k : kind ≡ 1 = eqb-true kind 1 (and-l (eqb kind 1) (eqb a i) t) in
           let y : a ≡ i = eqb-true a i (and-r (eqb kind 1) (eqb a i) t) in
-          e .1 (subst (λ (j : ℕ). rankAt s j .phase ≡ outside) y (enters-from-outside anc s a b (reached-orderly anc n s run) (subst (λ (j : ℕ). event anc s j a b .answer ≡ 0) k z)))
+          e .1 (subst (λ (j : ℕ). rankAt s j .phase ≡ outside) y (enters-from-outside anc s a b (reached-in-order anc n s run) (subst (λ (j : ℕ). event anc s j a b .answer ≡ 0) k z)))
 
   entry-counts : (i : ℕ) → Entered n s i ⊎ ((v : ℕ) × Entry kind a b i v) → (Entered n s i → hasEntered anc n s run i ≡ true) → hasEntered anc n (event anc s kind a b .state) (next s kind a b run z) i ≡ true
   unfolding hasEntered isEntry
@@ -104,9 +104,9 @@ entered-in-the-run anc tree n s (begun z) i e = absurd (e .1 (subst (λ (x : Sta
 entered-in-the-run anc tree n s (next s′ kind a b run z) i e =
     entry-counts anc n s′ kind a b run z i (was-entered anc n (Entry kind a b) s′ (event anc s′ kind a b .state) (reached-moves anc tree n s′ kind a b run z) i e) (λ h. entered-in-the-run anc tree n s′ run i h)
 
-pub reached-covers : (anc : ℕ → ℕ) → Ancestry anc → Chained anc → (n : ℕ) (s : State) (run : Reaches anc n s) → Covering anc n (wordOf anc n s run) s
+pub reached-covers : (anc : ℕ → ℕ) → Ancestry anc → Chained anc → (n : ℕ) (s : State) (run : Reaches anc n s) → Coverage anc n (wordOf anc n s run) s
 reached-covers anc tree chain n s (begun z) =
-    subst (Covering anc n (wordOf anc n (started anc n .state) (begun z))) (sym (started-fresh anc n z .1))
+    subst (Coverage anc n (wordOf anc n (started anc n .state) (begun z))) (sym (started-fresh anc n z .1))
     (fresh-covers anc n (reached-small anc n (started anc n .state) (begun z) .1) (wordOf anc n (started anc n .state) (begun z)))
 reached-covers anc tree chain n s (next s′ kind a b run z) =
     a-move-covers anc tree chain n (reached-small anc n s′ run .1) (Entry kind a b) s′ (event anc s′ kind a b .state) (reached-truthful anc n (event anc s′ kind a b .state) (next s′ kind a b run z))

@@ -9,9 +9,9 @@ use Rattle.sets.specs.Sets.{has, union, meet, add}
 use Rattle.sets.proofs.Laws.Bools.{eq-or-ne, cond-false, and-assoc, or-l, or-r, or-cases}
 use Rattle.sets.proofs.Laws.Members.{ext, has-meet, has-union, has-zero, has-add-same, has-add-other, has-add-more}
 use Rattle.rank.specs.Words.{allBits, combine}
-use Rattle.group.specs.declared.State.{State}
+use Rattle.state.specs.declared.State.{State}
 use Rattle.agreement.specs.Agreement.{andOf}
-use Rattle.agreement.proofs.Coverage.Covering.{Entered, Combines}
+use Rattle.agreement.proofs.Coverage.Invariant.{Entered, Combines}
 
 -- ---- the AND of two words
 

@@ -13,17 +13,17 @@ use Rattle.tree.specs.Tree.{parent, children}
 use Rattle.tree.proofs.Laws.Parents.{parent-lt, parent-free}
 use Rattle.tree.proofs.Laws.Children.{Child, child-o, child-gt}
 use Rattle.rank.specs.Words.{outside, gathering, waiting, decided}
-use Rattle.rank.specs.Order.{Ordered}
-use Rattle.rank.specs.Turns.{Root, Leads}
+use Rattle.rank.proofs.Facts.{RankInOrder}
+use Rattle.rank.proofs.Turn.{NoParent, Leads}
 use Rattle.rank.proofs.Laws.Keeping.{awaited-child, waiting-led}
-use Rattle.group.specs.declared.State.{State}
-use Rattle.group.specs.States.{rankAt}
-use Rattle.group.specs.Moves.{Flies}
+use Rattle.state.specs.declared.State.{State}
+use Rattle.state.specs.States.{rankAt}
+use Rattle.group.proofs.Moves.{Flies}
 use Rattle.agreement.specs.Progress.{Lives, Quiet, AllEntered, AllDeathsKnown, AllDecided}
 use Rattle.agreement.proofs.Living.{Truthful}
-use Rattle.agreement.proofs.Progress.Standing.{Held, Polled, Standing}
+use Rattle.agreement.proofs.Progress.Invariant.{Held, Polled, Progress}
 
-module _ (anc : ℕ → ℕ) (n : ℕ) (small : n ≤ 64) (s : State) (inv : Standing anc n s) (ordered : (i : ℕ) → i < n → Ordered anc n i (rankAt s i)) (truth : Truthful n s)
+module _ (anc : ℕ → ℕ) (n : ℕ) (small : n ≤ 64) (s : State) (inv : Progress anc n s) (in-order : (i : ℕ) → i < n → RankInOrder anc n i (rankAt s i)) (truth : Truthful n s)
     (quiet : Quiet s) (entered : AllEntered n s) (known : AllDeathsKnown n s) where
   silence : (k b x : ℕ) → Flies s k b x → ⊥
   silence k b x h = let l = h .listed in omega (arith, quiet)
@@ -44,7 +44,7 @@ module _ (anc : ℕ → ℕ) (n : ℕ) (small : n ≤ 64) (s : State) (inv : Sta
           → (rankAt s i .phase ≡ gathering) ⊎ ((rankAt s i .phase ≡ waiting) ⊎ (rankAt s i .phase ≡ decided))
       go (inl e) y = inl e
       go (inr e) (inl y) = inr (inl y)
-      go (inr e) (inr y) = let k = ordered i (l .0) .fair .known in let o : rankAt s i .phase ≡ outside → ⊥ = entered i l in inr (inr (omega arith))
+      go (inr e) (inr y) = let k = in-order i (l .0) .to-settle .known in let o : rankAt s i .phase ≡ outside → ⊥ = entered i l in inr (inr (omega arith))
 
   -- ---- nobody gathers
 
@@ -54,7 +54,7 @@ module _ (anc : ℕ → ℕ) (n : ℕ) (small : n ≤ 64) (s : State) (inv : Sta
   waits-not a c k f (inr (inl h)) = silence _ a c h
   waits-not a c k f (inr (inr h)) = go (h .2)
     where
-      go : (has (rankAt s a .heard) c ≡ true) ⊎ ((rankAt s a .phase ≡ gathering) × Root anc a (rankAt s a) × ((has (children anc n (rankAt s a .marks) a) c ≡ false) ⊎ Flies s 3 a c)) → ⊥
+      go : (has (rankAt s a .heard) c ≡ true) ⊎ ((rankAt s a .phase ≡ gathering) × NoParent anc a (rankAt s a) × ((has (children anc n (rankAt s a .marks) a) c ≡ false) ⊎ Flies s 3 a c)) → ⊥
       go (inl y) = clash (has (rankAt s a .heard) c) y f
       go (inr y) = ⊎-elim (λ (v : has (children anc n (rankAt s a .marks) a) c ≡ false). clash (has (children anc n (rankAt s a .marks) a) c) k v) (λ (v : Flies s 3 a c). silence _ a c v) (y .2)
 
@@ -71,7 +71,7 @@ module _ (anc : ℕ → ℕ) (n : ℕ) (small : n ≤ 64) (s : State) (inv : Sta
 
   -- so the largest that gathers awaits nobody
   stuck : (a : ℕ) → Lives n s a → rankAt s a .phase ≡ gathering → ((c : ℕ) → a < c → Lives n s c → rankAt s c .phase ≡ gathering → ⊥) → ⊥
-  stuck a la g higher = ordered a (la .0) .gathers g (none-in (rankAt s a .awaited) nobody)
+  stuck a la g higher = in-order a (la .0) .gathers g (none-in (rankAt s a .awaited) nobody)
     where
       awaits : (c : ℕ) → Leads anc n a (rankAt s a) c → has (rankAt s a .heard) c ≡ false → Child anc n (rankAt s a .marks) a c → ⊥
       awaits c k f h = go (phases c lc)
@@ -91,7 +91,7 @@ module _ (anc : ℕ → ℕ) (n : ℕ) (small : n ≤ 64) (s : State) (inv : Sta
           go (inr (inr e)) = decided-not a c la g lc k e
 
       nobody : (c : ℕ) → has (rankAt s a .awaited) c ≡ true → ⊥
-      nobody c h = let t = awaited-child anc n a (rankAt s a) (ordered a (la .0)) c h in awaits c (t .0) (t .1) (child-o anc n (rankAt s a .marks) a c (t .0))
+      nobody c h = let t = awaited-child anc n a (rankAt s a) (in-order a (la .0)) c h in awaits c (t .0) (t .1) (child-o anc n (rankAt s a .marks) a c (t .0))
 
   -- from the largest rank down; the first number bounds how far a is from n
   nobody-gathers : (d a : ℕ) → n ≤ a + d → Lives n s a → rankAt s a .phase ≡ gathering → ⊥
@@ -108,7 +108,7 @@ module _ (anc : ℕ → ℕ) (n : ℕ) (small : n ≤ 64) (s : State) (inv : Sta
   -- from the smallest rank up; the first number bounds p
   nobody-waits : (d p : ℕ) → p < d → Lives n s p → rankAt s p .phase ≡ waiting → ⊥
   nobody-waits zero p b lp w = omega arith
-  nobody-waits (suc d) p b lp w = go (λ a x y. nobody-waits d a x y) (parent anc (rankAt s p .marks) p) refl (waiting-led anc n p (rankAt s p) (ordered p (lp .0)) w)
+  nobody-waits (suc d) p b lp w = go (λ a x y. nobody-waits d a x y) (parent anc (rankAt s p .marks) p) refl (waiting-led anc n p (rankAt s p) (in-order p (lp .0)) w)
     where
       go : ((a : ℕ) → a < d → Lives n s a → rankAt s a .phase ≡ waiting → ⊥) → (a : ℕ) → parent anc (rankAt s p .marks) p ≡ a → (parent anc (rankAt s p .marks) p ≡ none → ⊥) → ⊥
       go lower a e h = by (phases a la)

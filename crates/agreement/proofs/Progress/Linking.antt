@@ -14,17 +14,17 @@ use Rattle.tree.proofs.Laws.Children.{child-o, child-gt}
 use Rattle.rank.specs.declared.Rank.{Rank}
 use Rattle.rank.specs.declared.Send.{Send}
 use Rattle.rank.specs.Words.{outside, gathering, waiting, decided, up, down, ask}
-use Rattle.rank.specs.Turns.{Root, Leads, Polls, Says}
-use Rattle.group.specs.declared.State.{State}
-use Rattle.group.specs.States.{rankAt}
-use Rattle.group.specs.Moves.{Flies, Turns}
+use Rattle.rank.proofs.Turn.{NoParent, Leads, Polls, Says}
+use Rattle.state.specs.declared.State.{State}
+use Rattle.state.specs.States.{rankAt}
+use Rattle.group.proofs.Moves.{Flies, ByRank}
 use Rattle.agreement.specs.Progress.{Lives}
 use Rattle.agreement.proofs.Living.{Truthful, lived, own-lives, unmarked}
-use Rattle.agreement.proofs.Progress.Standing.{Calm, Owes, owes-on, Held, InDebt, Polled, Standing}
-use Rattle.agreement.proofs.Progress.Turning.{root-stays, calm-stays, only-root}
+use Rattle.agreement.proofs.Progress.Invariant.{Calm, Owes, owes-on, Held, InDebt, Polled, Progress}
+use Rattle.agreement.proofs.Progress.ByRank.{root-stays, calm-stays, only-root}
 
-module _ (anc : ℕ → ℕ) (tree : Ancestry anc) (chain : Chained anc) (n : ℕ) (small : n ≤ 64) (s s′ : State) (p kind q : ℕ) (f g : Send) (t : Turns anc n s s′ p kind q f g)
-    (true′ : Truthful n s′) (inv : Standing anc n s) where
+module _ (anc : ℕ → ℕ) (tree : Ancestry anc) (chain : Chained anc) (n : ℕ) (small : n ≤ 64) (s s′ : State) (p kind q : ℕ) (f g : Send) (t : ByRank anc n s s′ p kind q f g)
+    (true′ : Truthful n s′) (inv : Progress anc n s) where
   abbrev Undecided : Type 0
   Undecided = rankAt s′ p .phase ≡ decided → ⊥
 
@@ -34,7 +34,7 @@ module _ (anc : ℕ → ℕ) (tree : Ancestry anc) (chain : Chained anc) (n : �
   free : (x : ℕ) → Lives n s′ x → has (rankAt s′ p .marks) x ≡ false
   free = unmarked t true′
 
-  rooted : Root anc p (rankAt s p) → Root anc p (rankAt s′ p)
+  rooted : NoParent anc p (rankAt s p) → NoParent anc p (rankAt s′ p)
   rooted = root-stays anc tree chain n small s s′ p kind q f g t true′ inv
 
   lasts : Calm anc n s → Undecided → Calm anc n s′
@@ -64,19 +64,19 @@ module _ (anc : ℕ → ℕ) (tree : Ancestry anc) (chain : Chained anc) (n : �
       go (inr y) = absurd (t .turn .takes-down (y .0) .1 w)
   waits-on a d w e (inr (inr h)) = go (subst (λ (r : Rank). Owes anc n (Flies s ask a p) a r p) (sym (t .others a d)) h)
     where
-      asked : (rankAt s′ a .phase ≡ decided → ⊥) → has (rankAt s′ a .owed) p ≡ true → rankAt s′ a .phase ≡ gathering → Root anc a (rankAt s′ a)
+      asked : (rankAt s′ a .phase ≡ decided → ⊥) → has (rankAt s′ a .owed) p ≡ true → rankAt s′ a .phase ≡ gathering → NoParent anc a (rankAt s′ a)
           → Flies s′ ask a p ⊎ ((kind ≡ ask) × (q ≡ a)) → Held anc n s′ p a
       asked u o y z (inl v) = inr (inr (u, o, inr (y, z, inr v)))
       asked u o y z (inr v) = inl (subst (Flies s′ up p) (v .1) (t .joins up q (t .turn .asked-reports (v .0) w (e ∙ sym (v .1)))))
 
-      root : (rankAt s′ a .phase ≡ decided → ⊥) → has (rankAt s′ a .owed) p ≡ true → rankAt s′ a .phase ≡ gathering → Root anc a (rankAt s′ a)
+      root : (rankAt s′ a .phase ≡ decided → ⊥) → has (rankAt s′ a .owed) p ≡ true → rankAt s′ a .phase ≡ gathering → NoParent anc a (rankAt s′ a)
           → (has (children anc n (rankAt s′ a .marks) a) p ≡ false) ⊎ Flies s ask a p → Held anc n s′ p a
       root u o y z (inl v) = inr (inr (u, o, inr (y, z, inl v)))
       root u o y z (inr v) = asked u o y z (still ask a v)
 
       go : Owes anc n (Flies s ask a p) a (rankAt s′ a) p → Held anc n s′ p a
       go o = ⊎-elim (λ (y : has (rankAt s′ a .heard) p ≡ true). inr (inr (o .0, o .1, inl y)))
-          (λ (y : (rankAt s′ a .phase ≡ gathering) × Root anc a (rankAt s′ a) × ((has (children anc n (rankAt s′ a .marks) a) p ≡ false) ⊎ Flies s ask a p)). root (o .0) (o .1) (y .0) (y .1) (y .2)) (o .2)
+          (λ (y : (rankAt s′ a .phase ≡ gathering) × NoParent anc a (rankAt s′ a) × ((has (children anc n (rankAt s′ a .marks) a) p ≡ false) ⊎ Flies s ask a p)). root (o .0) (o .1) (y .0) (y .1) (y .2)) (o .2)
 
   own-held : (a : ℕ) → Lives n s′ p → rankAt s′ p .phase ≡ waiting → parent anc (rankAt s′ p .marks) p ≡ a → Lives n s′ a → Held anc n s′ p a
   own-held a lp w e la = go (t .turn .reports-to w)
@@ -91,14 +91,14 @@ module _ (anc : ℕ → ℕ) (tree : Ancestry anc) (chain : Chained anc) (n : �
   -- ---- this rank holds x, which waits
 
   -- as a gathering root it has x for no child, or asks it
-  asks : (x : ℕ) → Undecided → has (rankAt s′ p .owed) x ≡ true → rankAt s′ p .phase ≡ gathering → Root anc p (rankAt s′ p) → (Leads anc n p (rankAt s′ p) x → Flies s′ ask p x) → Held anc n s′ x p
+  asks : (x : ℕ) → Undecided → has (rankAt s′ p .owed) x ≡ true → rankAt s′ p .phase ≡ gathering → NoParent anc p (rankAt s′ p) → (Leads anc n p (rankAt s′ p) x → Flies s′ ask p x) → Held anc n s′ x p
   asks x u o y z h =
       ⊎-elim (λ (e : Leads anc n p (rankAt s′ p) x). inr (inr (u, o, inr (y, z, inr (h e))))) (λ (e : has (children anc n (rankAt s′ p .marks) p) x ≡ false). inr (inr (u, o, inr (y, z, inl e)))) (passes-or-fails (has (children anc n (rankAt s′ p .marks) p) x))
 
   holds-on : (x : ℕ) → Lives n s′ x → (x ≡ p → ⊥) → Owes anc n (Flies s ask p x) p (rankAt s p) x → Held anc n s′ x p
   holds-on x l d o = go (repaid x l (o .0) (t .turn .owed-stays x (o .1)))
     where
-      goes : Undecided → has (rankAt s′ p .owed) x ≡ true → Root anc p (rankAt s p) → (has (children anc n (rankAt s p .marks) p) x ≡ false) ⊎ Flies s ask p x
+      goes : Undecided → has (rankAt s′ p .owed) x ≡ true → NoParent anc p (rankAt s p) → (has (children anc n (rankAt s p .marks) p) x ≡ false) ⊎ Flies s ask p x
           → (rankAt s′ p .phase ≡ decided) ⊎ ((rankAt s′ p .phase ≡ gathering) × ((c : ℕ) → Leads anc n p (rankAt s′ p) c → Leads anc n p (rankAt s p) c ⊎ Says f g ask c)) → Held anc n s′ x p
       goes u w z v (inl e) = absurd (u e)
       goes u w z (inr v) (inr y) = inr (inr (u, w, inr (y .0, rooted z, inr (kept ask p x d v))))
@@ -111,7 +111,7 @@ module _ (anc : ℕ → ℕ) (tree : Ancestry anc) (chain : Chained anc) (n : �
       go (inr h) =
           ⊎-elim (λ (y : has (rankAt s p .heard) x ≡ true). ⊎-elim (λ (v : has (rankAt s′ p .heard) x ≡ true). inr (inr (h .0, h .1, inl v)))
           (λ (v : Polls anc n p (rankAt s′ p) f g). asks x (h .0) (h .1) (v .gathers) (v .root) (λ c. t .joins ask x (v .each x c))) (t .turn .heard-stays (h .0) x y))
-          (λ (y : (rankAt s p .phase ≡ gathering) × Root anc p (rankAt s p) × ((has (children anc n (rankAt s p .marks) p) x ≡ false) ⊎ Flies s ask p x)). goes (h .0) (h .1) (y .1) (y .2) (t .turn .goes-on (y .0) (y .1))) (o .2)
+          (λ (y : (rankAt s p .phase ≡ gathering) × NoParent anc p (rankAt s p) × ((has (children anc n (rankAt s p .marks) p) x ≡ false) ⊎ Flies s ask p x)). goes (h .0) (h .1) (y .1) (y .2) (t .turn .goes-on (y .0) (y .1))) (o .2)
 
   -- it takes x's report
   hears : (x : ℕ) → Lives n s′ x → q ≡ x → Says f g down q ⊎ ((rankAt s p .phase ≡ decided → ⊥) × (has (rankAt s′ p .heard) q ≡ true) × (has (rankAt s′ p .owed) q ≡ true)) → Held anc n s′ x p
@@ -158,10 +158,10 @@ module _ (anc : ℕ → ℕ) (tree : Ancestry anc) (chain : Chained anc) (n : �
   polls-on c d e (inr (inr (inr h))) =
       ⊎-elim (λ (y : Flies s′ down c p). inr (inr (inr y))) (λ (y : (kind ≡ down) × (q ≡ c)). absurd (t .turn .takes-down (y .0) .0 e)) (still down c h)
 
-  own-polls : (c : ℕ) → (c ≡ p → ⊥) → Lives n s′ p → rankAt s′ p .phase ≡ gathering → Root anc p (rankAt s′ p) → Lives n s′ c → Leads anc n p (rankAt s′ p) c → Polled anc n s′ p c
+  own-polls : (c : ℕ) → (c ≡ p → ⊥) → Lives n s′ p → rankAt s′ p .phase ≡ gathering → NoParent anc p (rankAt s′ p) → Lives n s′ c → Leads anc n p (rankAt s′ p) c → Polled anc n s′ p c
   own-polls c d lp e z lc k = go (t .turn .was-gathering e)
     where
-      gained : rankAt s p .phase ≡ gathering → Root anc p (rankAt s p)
+      gained : rankAt s p .phase ≡ gathering → NoParent anc p (rankAt s p)
           → (rankAt s′ p .phase ≡ decided) ⊎ ((rankAt s′ p .phase ≡ gathering) × ((b : ℕ) → Leads anc n p (rankAt s′ p) b → Leads anc n p (rankAt s p) b ⊎ Says f g ask b)) → Polled anc n s′ p c
       gained y v (inl h) = absurd (omega arith)
       gained y v (inr h) =
@@ -205,7 +205,7 @@ module _ (anc : ℕ → ℕ) (tree : Ancestry anc) (chain : Chained anc) (n : �
   -- ---- others
 
   -- of two roots that live, each knows the other dead if it is smaller
-  no-second-root : (a : ℕ) → Lives n s′ a → (a ≡ p → ⊥) → Root anc a (rankAt s′ a) → Calm anc n s → Undecided
+  no-second-root : (a : ℕ) → Lives n s′ a → (a ≡ p → ⊥) → NoParent anc a (rankAt s′ a) → Calm anc n s → Undecided
   no-second-root a la d z c e = go (lt-or-le a p)
     where
       lp : Lives n s′ p
@@ -218,24 +218,24 @@ module _ (anc : ℕ → ℕ) (tree : Ancestry anc) (chain : Chained anc) (n : �
           let y : has (s′ .group .dead) p ≡ true = true′ a p (la .0) (no-parent-all anc (rankAt s′ a .marks) a (omega arith) z p (omega arith)) in
           clash (has (s′ .group .dead) p) y (lp .1)
 
-  others-polled : (a c : ℕ) → (a ≡ p → ⊥) → (c ≡ p → ⊥) → Lives n s′ a → Root anc a (rankAt s′ a) → Polled anc n s a c → Polled anc n s′ a c
+  others-polled : (a c : ℕ) → (a ≡ p → ⊥) → (c ≡ p → ⊥) → Lives n s′ a → NoParent anc a (rankAt s′ a) → Polled anc n s a c → Polled anc n s′ a c
   others-polled a c da dc la z (inl h) = inl (lasts h (no-second-root a la da z h))
   others-polled a c da dc la z (inr (inl h)) = inr (inl (kept ask a c dc h))
   others-polled a c da dc la z (inr (inr (inl h))) = inr (inr (inl (subst (λ (r : Rank). InDebt anc n r a) (sym (t .others c dc)) h)))
   others-polled a c da dc la z (inr (inr (inr h))) = inr (inr (inr (kept down c a da h)))
 
-  pub polled′ : (a c : ℕ) → Lives n s′ a → rankAt s′ a .phase ≡ gathering → Root anc a (rankAt s′ a) → Lives n s′ c → Leads anc n a (rankAt s′ a) c → Polled anc n s′ a c
+  pub polled′ : (a c : ℕ) → Lives n s′ a → rankAt s′ a .phase ≡ gathering → NoParent anc a (rankAt s′ a) → Lives n s′ c → Leads anc n a (rankAt s′ a) c → Polled anc n s′ a c
   polled′ a c la e z lc k = go (eq-or-ne a p) (eq-or-ne c p)
     where
       a<c : a < c
       a<c = let h = la .0 in child-gt anc n (rankAt s′ a .marks) a c (omega arith) (child-o anc n (rankAt s′ a .marks) a c k)
 
       old : (a ≡ p → ⊥) → Polled anc n s a c
-      old d = inv .polled a c (alive a la) (subst (λ (r : Rank). r .phase ≡ gathering) (t .others a d) e) (subst (Root anc a) (t .others a d) z) (alive c lc) (subst (λ (r : Rank). Leads anc n a r c) (t .others a d) k)
+      old d = inv .polled a c (alive a la) (subst (λ (r : Rank). r .phase ≡ gathering) (t .others a d) e) (subst (NoParent anc a) (t .others a d) z) (alive c lc) (subst (λ (r : Rank). Leads anc n a r c) (t .others a d) k)
 
       go : (a ≡ p) ⊎ (a ≡ p → ⊥) → (c ≡ p) ⊎ (c ≡ p → ⊥) → Polled anc n s′ a c
       go (inl y) v =
           subst (λ (b : ℕ). Polled anc n s′ b c) (sym y)
-          (own-polls c (λ x. let l = a<c in omega arith) (subst (Lives n s′) y la) (subst (λ (b : ℕ). rankAt s′ b .phase ≡ gathering) y e) (subst (λ (b : ℕ). Root anc b (rankAt s′ b)) y z) lc (subst (λ (b : ℕ). Leads anc n b (rankAt s′ b) c) y k))
+          (own-polls c (λ x. let l = a<c in omega arith) (subst (Lives n s′) y la) (subst (λ (b : ℕ). rankAt s′ b .phase ≡ gathering) y e) (subst (λ (b : ℕ). NoParent anc b (rankAt s′ b)) y z) lc (subst (λ (b : ℕ). Leads anc n b (rankAt s′ b) c) y k))
       go (inr y) (inl v) = subst (Polled anc n s′ a) (sym v) (own-polled a y la (subst (λ (b : ℕ). a < b) v a<c) (subst (Polled anc n s a) v (old y)))
       go (inr y) (inr v) = others-polled a c y v la z (old y)

@@ -2,16 +2,16 @@
 use Prim.Native.Nat.{ℕ, _≤_}
 use Rattle.tree.specs.Relations.{Ancestry, Chained}
 use Rattle.rank.specs.declared.Send.{Send}
-use Rattle.group.specs.declared.State.{State}
-use Rattle.group.specs.Moves.{Turns, Move, turns, fades}
+use Rattle.state.specs.declared.State.{State}
+use Rattle.group.proofs.Moves.{ByRank, Move, by-rank, by-loss}
 use Rattle.agreement.proofs.Living.{Truthful}
-use Rattle.agreement.proofs.Progress.Standing.{Standing}
-use Rattle.agreement.proofs.Progress.Turning.{heard-old′, report-old′, waiting-old′, new-calm′}
+use Rattle.agreement.proofs.Progress.Invariant.{Progress}
+use Rattle.agreement.proofs.Progress.ByRank.{heard-old′, report-old′, waiting-old′, new-calm′}
 use Rattle.agreement.proofs.Progress.Linking.{held′, polled′}
-use Rattle.agreement.proofs.Progress.Fading.{fades-keep}
+use Rattle.agreement.proofs.Progress.ByLoss.{fades-keep}
 
-module _ (anc : ℕ → ℕ) (tree : Ancestry anc) (chain : Chained anc) (n : ℕ) (small : n ≤ 64) (s s′ : State) (true′ : Truthful n s′) (inv : Standing anc n s) where
-  turns-keep : (p kind q : ℕ) (f g : Send) → Turns anc n s s′ p kind q f g → Standing anc n s′
+module _ (anc : ℕ → ℕ) (tree : Ancestry anc) (chain : Chained anc) (n : ℕ) (small : n ≤ 64) (s s′ : State) (true′ : Truthful n s′) (inv : Progress anc n s) where
+  turns-keep : (p kind q : ℕ) (f g : Send) → ByRank anc n s s′ p kind q f g → Progress anc n s′
   turns-keep p kind q f g t = record {
     heard-old = heard-old′ anc tree chain n small s s′ p kind q f g t true′ inv;
     report-old = report-old′ anc tree chain n small s s′ p kind q f g t true′ inv;
@@ -21,6 +21,6 @@ module _ (anc : ℕ → ℕ) (tree : Ancestry anc) (chain : Chained anc) (n : �
     polled = polled′ anc tree chain n small s s′ p kind q f g t true′ inv;
   }
 
-  pub a-move-keeps : (Entry : ℕ → ℕ → Type 0) → Move anc n Entry s s′ → Standing anc n s′
-  a-move-keeps Entry (turns p kind q v f g t u) = turns-keep p kind q f g t
-  a-move-keeps Entry (fades t) = fades-keep anc n s s′ t inv
+  pub a-move-keeps : (Entry : ℕ → ℕ → Type 0) → Move anc n Entry s s′ → Progress anc n s′
+  a-move-keeps Entry (by-rank p kind q v f g t u) = turns-keep p kind q f g t
+  a-move-keeps Entry (by-loss t) = fades-keep anc n s s′ t inv

@@ -1,55 +1,63 @@
 -- An accepted event on a state in order is a move: one living rank takes its turn, with a message taken or with none, and speaks word for
 -- word; or no record changes, no message joins, and at most one with a dead end is gone. Over any ancestor sets. Assumes nothing.
 use mathlib.Core.Path.{_≡_, refl, sym, ap, subst, _∙_}
-use mathlib.Core.Bool.{Bool, true, false, cond, not, _&&_, _||_}
+use mathlib.Core.Bool.{Bool, true, false, cond}
 use mathlib.Core.Logic.{_⊎_, inl, inr, ⊎-elim}
 use Prim.Native.Nat.{ℕ, _≤_, _<_}
 use native.Mathlib.Omega.{arith}
 use lib.Dec.{eqb}
 use lib.ListN.{length, getD}
 use lib.Seq.{getD-take, getD-set-same, getD-set-other}
-use borrow.Author.Tests.{eqb-true, eq-eqb, ne-eqb}
+use borrow.Author.Tests.{eq-eqb, ne-eqb}
 use Rattle.sets.specs.Sets.{has, add, listed}
-use Rattle.sets.proofs.Laws.Bools.{passes-or-fails, clash, passes, eq-or-ne, and-i, or-cases, not-i, cond-false, or-neither}
+use Rattle.sets.proofs.Laws.Bools.{clash, eq-or-ne, cond-false}
 use Rattle.sets.proofs.Laws.Members.{has-add-more}
 use Rattle.tree.specs.Relations.{Ancestry}
 use Rattle.rank.specs.declared.Rank.{Rank}
 use Rattle.rank.specs.declared.Acted.{Acted}
 use Rattle.rank.specs.Words.{outside, up, down, ask}
-use Rattle.rank.specs.Turns.{Says, Turn}
-use Rattle.rank.specs.Speech.{SaysWord, Speech}
-use Rattle.rank.proofs.Laws.Settling.{Turning, silence}
-use Rattle.rank.proofs.Laws.Turning.{enter-turn, up-turn, down-turn, ask-turn, notice-turn}
-use Rattle.rank.proofs.Laws.Uttering.{any-word}
-use Rattle.rank.proofs.Laws.Speaking.{Speaking, enter-speech, up-speech, down-speech, ask-speech, notice-speech}
-use Rattle.group.specs.declared.State.{State}
-use Rattle.group.specs.declared.Plan.{Plan}
+use Rattle.rank.proofs.Turn.{Says, Turn}
+use Rattle.rank.proofs.Speech.{SaysWord, Speech}
+use Rattle.rank.proofs.Laws.SettleTurn.{ActedTurn, silence}
+use Rattle.rank.proofs.Laws.RuleTurns.{enter-turn, up-turn, down-turn, ask-turn, notice-turn}
+use Rattle.rank.proofs.Laws.SettleSpeech.{any-word}
+use Rattle.rank.proofs.Laws.RuleSpeeches.{ActedSpeech, enter-speech, up-speech, down-speech, ask-speech, notice-speech}
+use Rattle.rank.proofs.Facts.{MemberInOrder}
+use Rattle.net.specs.Net.{zeroMessage}
+use Rattle.net.proofs.Facts.{MessageInOrder}
+use Rattle.net.proofs.Laws.Among.{Among, Named, Worded}
+use Rattle.refusals.specs.Refusing.{namesRank, namesPlace}
+use Rattle.refusals.proofs.Laws.Refusing.{clean-notice, clean-outside, clean-told, clean-end, names-a-rank, names-a-place, place-kinds}
+use Rattle.state.specs.declared.State.{State}
+use Rattle.state.specs.States.{zeroRank, rankAt, rowAt, placeAt, flying}
+use Rattle.order.proofs.Facts.{InOrderFacts}
+use Rattle.order.specs.Between.{InOrder}
+use Rattle.order.proofs.Laws.Ordering.{in-order-facts}
+use Rattle.plans.specs.declared.Plan.{Plan}
+use Rattle.plans.specs.Plans.{idle, delivered}
+use Rattle.plans.proofs.Laws.Planning.{act-enters, act-delivers, act-notices, act-nothing}
+use Rattle.plans.proofs.Laws.Cases as Plans
+use Rattle.plans.proofs.Laws.Cases.{Dropped, delivered-by}
+use Rattle.rank.specs.Rules.{takingUp, takingDown, takingAsk}
+use Rattle.plans.proofs.Laws.Acting.{asker-below}
 use Rattle.group.specs.declared.Stepped.{Stepped}
-use Rattle.group.specs.Net.{zeroMessage}
-use Rattle.group.specs.States.{zeroRank, rankAt, rowAt, placeAt, flying}
-use Rattle.group.specs.Refusing.{namesRank, namesPlace, notOutside, isLiving, bothLive}
-use Rattle.group.specs.Events.{idle, delivered, posted, applied, carried, subjectOf, planOf, stepped}
-use Rattle.group.specs.Order.{Lawful, Seated, Facts, Orderly, event}
-use Rattle.group.specs.Moves.{Flies, Carries, Move, turns, fades, Entry}
-use Rattle.group.proofs.Laws.Ordering.{orderly-facts}
-use Rattle.group.proofs.Laws.Planning.{deliver-dropped, deliver-up, deliver-down, deliver-ask, act-enters, act-delivers, act-notices, act-nothing}
-use Rattle.group.proofs.Laws.Stepping.{step-plan, clean-notice, subject-receives, subject-in}
-use Rattle.group.proofs.Laws.Acting.{asker-below}
-use Rattle.group.proofs.Laws.Preserving.{ok, named, ranks-kind, places-kind, listed-there, outcome, list-long}
-use Rattle.group.proofs.Laws.Knowing.{event-steps-on}
-use Rattle.group.proofs.Laws.Flying.{Among, Named, Worded, posted-was, posted-stays, posted-joins, applied-flies, carries-applied}
+use Rattle.group.specs.Events.{posted, applied, carried, subjectOf, planOf, stepped, event}
+use Rattle.group.proofs.Moves.{Flies, Carries, Move, by-rank, by-loss, Entry}
+use Rattle.group.proofs.Laws.Stepping.{step-plan, subject-receives, subject-in}
+use Rattle.group.proofs.Laws.Preserving.{ok, named, listed-there, outcome, list-long}
+use Rattle.group.proofs.Laws.Events.{event-steps-on}
+use Rattle.group.proofs.Laws.Flying.{posted-was, posted-stays, posted-joins, applied-flies, carries-applied}
 
 -- the state after the plan of an event
 abbrev after : State → ℕ → ℕ → Plan → State
 after s kind a p = applied s a (subjectOf s kind a) p
 
-module _ (anc : ℕ → ℕ) (s : State) (f : Facts anc s) (kind a b : ℕ) (p : Plan) (e : p ≡ planOf anc s kind a b) (z : p .answer ≡ 0) where
+module _ (anc : ℕ → ℕ) (s : State) (f : InOrderFacts anc s) (kind a b : ℕ) (p : Plan) (e : p ≡ planOf anc s kind a b) (z : p .answer ≡ 0) where
   flying-long : length (flying s) ≡ s .group .count
   flying-long = list-long anc s f kind a b p e z
 
   -- the list of the messages in flight, place by place
   flying-at : (i : ℕ) → i < s .group .count → getD (flying s) i zeroMessage ≡ placeAt s i
-  unfolding flying placeAt
   flying-at i h = getD-take (s .group .count) (s .group .net) i zeroMessage h
 
   flies-among : (k c x : ℕ) → Flies s k c x → Among (Named k c x) (flying s)
@@ -89,11 +97,11 @@ module _ (anc : ℕ → ℕ) (s : State) (f : Facts anc s) (kind a b : ℕ) (p :
       small (inr u) = omega (arith, f .size-high, outcome anc s f kind a b p e z .second-posted .to-in .inside x (u .1))
 
   rank-after : rankAt (after s kind a p) (subjectOf s kind a) ≡ p .acted .rank
-  unfolding applied rankAt
+  unfolding applied
   rank-after = getD-set-same (s .group .ranks) (subjectOf s kind a) (p .acted .rank) zeroRank (let x = f .shaped .ranks-long in let y = f .size-high in omega (arith, subject-in anc s f kind a))
 
   others-after : (j : ℕ) → (j ≡ subjectOf s kind a → ⊥) → rankAt (after s kind a p) j ≡ rankAt s j
-  unfolding applied rankAt
+  unfolding applied
   others-after j h = getD-set-other (s .group .ranks) (subjectOf s kind a) j (p .acted .rank) zeroRank h
 
   dead-after : after s kind a p .group .dead ≡ cond (eqb kind 3) (add (s .group .dead) (subjectOf s kind a)) (s .group .dead)
@@ -103,25 +111,25 @@ module _ (anc : ℕ → ℕ) (s : State) (f : Facts anc s) (kind a b : ℕ) (p :
   -- ---- a turn, and a fading
 
   -- w is what the rank does, both a turn and a speech
-  turns-after : (word q v : ℕ) → (kind ≡ 3 → ⊥) → has (s .group .dead) (subjectOf s kind a) ≡ false
-      → (w : Acted) → w ≡ p .acted → Turning anc (s .group .n) (subjectOf s kind a) word q (rankAt s (subjectOf s kind a)) w → Speaking anc (s .group .n) (subjectOf s kind a) word q v (Entry kind a b (subjectOf s kind a) v) (rankAt s (subjectOf s kind a)) w
+  by-rank-after : (word q v : ℕ) → (kind ≡ 3 → ⊥) → has (s .group .dead) (subjectOf s kind a) ≡ false
+      → (w : Acted) → w ≡ p .acted → ActedTurn anc (s .group .n) (subjectOf s kind a) word q (rankAt s (subjectOf s kind a)) w → ActedSpeech anc (s .group .n) (subjectOf s kind a) word q v (Entry kind a b (subjectOf s kind a) v) (rankAt s (subjectOf s kind a)) w
       → (namesPlace kind ≡ true → Worded word q (subjectOf s kind a) v (placeAt s a)) → ((word ≡ 0 → ⊥) → (namesPlace kind ≡ true) × (has (rankAt s (subjectOf s kind a) .marks) q ≡ false))
       → Move anc (s .group .n) (Entry kind a b) s (after s kind a p)
-  turns-after word q v h l w o t u m k = turns (subjectOf s kind a) word q v (p .acted .first) (p .acted .second) (record {
+  by-rank-after word q v h l w o t u m k = by-rank (subjectOf s kind a) word q v (p .acted .first) (p .acted .second) (record {
     own = subject-in anc s f kind a;
     lives = l;
     dead-stays = dead-after ∙ cond-false (eqb kind 3) (add (s .group .dead) (subjectOf s kind a)) (s .group .dead) (ne-eqb kind 3 h);
     others = others-after;
-    turn = subst (λ (r : Rank). Turn anc (s .group .n) (subjectOf s kind a) word q (rankAt s (subjectOf s kind a)) r (p .acted .first) (p .acted .second)) (sym rank-after) (subst (Turning anc (s .group .n) (subjectOf s kind a) word q (rankAt s (subjectOf s kind a))) o t);
+    turn = subst (λ (r : Rank). Turn anc (s .group .n) (subjectOf s kind a) word q (rankAt s (subjectOf s kind a)) r (p .acted .first) (p .acted .second)) (sym rank-after) (subst (ActedTurn anc (s .group .n) (subjectOf s kind a) word q (rankAt s (subjectOf s kind a))) o t);
     took = λ d. taken (k d .0) .flies;
     known = λ d. k d .1;
     stays = λ j c x n. ⊎-elim (λ (y : Flies (after s kind a p) j c x). inl y) (λ (y : (namesPlace kind ≡ true) × Named j c x (placeAt s a)). inr (same j c x (m (y .0) .0) (y .1))) (flies-stays j c x n);
     was = flies-was;
     joins = flies-joins;
   }) (record {
-    speech = subst (λ (r : Rank). Speech anc (s .group .n) (subjectOf s kind a) word q v (Entry kind a b (subjectOf s kind a) v) (rankAt s (subjectOf s kind a)) r (p .acted .first) (p .acted .second)) (sym rank-after) (subst (Speaking anc (s .group .n) (subjectOf s kind a) word q v (Entry kind a b (subjectOf s kind a) v) (rankAt s (subjectOf s kind a))) o u);
+    speech = subst (λ (r : Rank). Speech anc (s .group .n) (subjectOf s kind a) word q v (Entry kind a b (subjectOf s kind a) v) (rankAt s (subjectOf s kind a)) r (p .acted .first) (p .acted .second)) (sym rank-after) (subst (ActedSpeech anc (s .group .n) (subjectOf s kind a) word q v (Entry kind a b (subjectOf s kind a) v) (rankAt s (subjectOf s kind a))) o u);
     took = λ d. taken (k d .0);
-    asker = λ j c i. let y = k (λ o. omega arith) .0 in f .lawful a (listed-there anc s f kind a b p e z y) .ask-dead (m y .0 .0 ∙ j) c (subst (λ (o : ℕ). c < o) (sym (m y .0 .1)) i);
+    asker = λ j c i. let y = k (λ o. omega arith) .0 in f .message a (listed-there anc s f kind a b p e z y) .ask-dead (m y .0 .0 ∙ j) c (subst (λ (o : ℕ). c < o) (sym (m y .0 .1)) i);
     was = carries-was;
   })
     where
@@ -131,11 +139,10 @@ module _ (anc : ℕ → ℕ) (s : State) (f : Facts anc s) (kind a b : ℕ) (p :
       same : (j c x : ℕ) → Named word q (subjectOf s kind a) (placeAt s a) → Named j c x (placeAt s a) → (j ≡ word) × (c ≡ q) × (x ≡ subjectOf s kind a)
       same j c x n y = (sym (y .0) ∙ n .0, sym (y .1) ∙ n .1, sym (y .2) ∙ n .2)
 
-  fades-after : p .acted ≡ idle (rankAt s (subjectOf s kind a)) (rowAt s (subjectOf s kind a))
+  by-loss-after : p .acted ≡ idle (rankAt s (subjectOf s kind a)) (rowAt s (subjectOf s kind a))
       → (namesPlace kind ≡ true → (has (s .group .dead) (placeAt s a .from) ≡ true) ⊎ (has (s .group .dead) (placeAt s a .to) ≡ true))
       → Move anc (s .group .n) (Entry kind a b) s (after s kind a p)
-  unfolding idle
-  fades-after i d = fades (record {
+  by-loss-after i d = by-loss (record {
     dead-stays = λ k h. subst (λ (w : ℕ). has w k ≡ true) (sym dead-after) (more k h (eqb kind 3));
     ranks-stay = λ j. ⊎-elim (λ (q : j ≡ subjectOf s kind a). subst (λ (y : ℕ). rankAt (after s kind a p) y ≡ rankAt s y) (sym q) (rank-after ∙ ap (λ (y : Acted). y .rank) i)) (others-after j) (eq-or-ne j (subjectOf s kind a));
     was = λ k c x n. ⊎-elim (λ (y : Flies s k c x). y) (λ (y : (c ≡ subjectOf s kind a) × Says (p .acted .first) (p .acted .second) k x). absurd (mute k x (y .1))) (flies-was k c x n);
@@ -158,123 +165,102 @@ module _ (anc : ℕ → ℕ) (s : State) (f : Facts anc s) (kind a b : ℕ) (p :
 
   -- the rank of an entry is the one that it names, and is outside
   enters-named : kind ≡ 1 → subjectOf s kind a ≡ a
-  enters-named k = let t = ranks-kind anc s f kind a b p e z (inl k) in named anc s f kind a b p e z (t .0) (t .1) .0
+  enters-named k = let t = names-a-rank kind (inl k) in named anc s f kind a b p e z (t .0) (t .1) .0
 
   enters-outside : kind ≡ 1 → rankAt s (subjectOf s kind a) .phase ≡ outside
-  unfolding notOutside
-  enters-outside k =
-      eqb-true (rankAt s (subjectOf s kind a) .phase) outside (passes (eqb (rankAt s (subjectOf s kind a) .phase) outside)
-      (λ h. clash (eqb kind 1 && not (eqb (rankAt s (subjectOf s kind a) .phase) outside)) (and-i (eqb kind 1) (not (eqb (rankAt s (subjectOf s kind a) .phase) outside)) (eq-eqb kind 1 k) (not-i (eqb (rankAt s (subjectOf s kind a) .phase) outside) h)) (ok anc s f kind a b p e z .clean .is-outside)))
+  enters-outside k = clean-outside _ _ _ _ _ _ _ _ (ok anc s f kind a b p e z .clean) k
 
   module _ (tree : Ancestry anc) where
-    seat : Seated anc (s .group .n) (s .group .dead) (subjectOf s kind a) (rankAt s (subjectOf s kind a)) (rowAt s (subjectOf s kind a))
-    seat = f .seated (subjectOf s kind a) (subject-in anc s f kind a)
+    seat : MemberInOrder anc (s .group .n) (s .group .dead) (subjectOf s kind a) (rankAt s (subjectOf s kind a)) (rowAt s (subjectOf s kind a))
+    seat = f .member (subjectOf s kind a) (subject-in anc s f kind a)
 
     -- the rank of an event that names one lives
     named-lives : namesRank kind ≡ true → namesPlace kind ≡ false → has (s .group .dead) (subjectOf s kind a) ≡ false
     named-lives r q = let x = named anc s f kind a b p e z r q in subst (λ (y : ℕ). has (s .group .dead) y ≡ false) (sym (x .0)) (x .2)
 
     -- one that takes no message, kind 1 or 4, is a turn without one
-    silent-turn : (v : ℕ) → namesRank kind ≡ true → namesPlace kind ≡ false → (kind ≡ 3 → ⊥) → (w : Acted) → w ≡ p .acted → Turning anc (s .group .n) (subjectOf s kind a) 0 0 (rankAt s (subjectOf s kind a)) w → Speaking anc (s .group .n) (subjectOf s kind a) 0 0 v (Entry kind a b (subjectOf s kind a) v) (rankAt s (subjectOf s kind a)) w
+    silent-turn : (v : ℕ) → namesRank kind ≡ true → namesPlace kind ≡ false → (kind ≡ 3 → ⊥) → (w : Acted) → w ≡ p .acted → ActedTurn anc (s .group .n) (subjectOf s kind a) 0 0 (rankAt s (subjectOf s kind a)) w → ActedSpeech anc (s .group .n) (subjectOf s kind a) 0 0 v (Entry kind a b (subjectOf s kind a) v) (rankAt s (subjectOf s kind a)) w
         → Move anc (s .group .n) (Entry kind a b) s (after s kind a p)
-    silent-turn v r q h w o t u = turns-after 0 0 v h (named-lives r q) w o t u (λ y. absurd (clash (namesPlace kind) y q)) (λ d. absurd (d refl))
+    silent-turn v r q h w o t u = by-rank-after 0 0 v h (named-lives r q) w o t u (λ y. absurd (clash (namesPlace kind) y q)) (λ d. absurd (d refl))
 
     enters-moves : kind ≡ 1 → Move anc (s .group .n) (Entry kind a b) s (after s kind a p)
     enters-moves k =
-        let t = ranks-kind anc s f kind a b p e z (inl k) in
+        let t = names-a-rank kind (inl k) in
         silent-turn b (t .0) (t .1) (λ x. omega arith) _ (act-enters anc (s .group .n) (s .group .dead) kind b (placeAt s a) (subjectOf s kind a) (rankAt s (subjectOf s kind a)) (rowAt s (subjectOf s kind a)) _ k refl ∙ sym (ok anc s f kind a b p e z .acted-is))
-        (enter-turn anc tree (s .group .n) (subjectOf s kind a) (f .size-high) (subject-in anc s f kind a) b (rankAt s (subjectOf s kind a)) (seat .ordered) (enters-outside k))
-        (enter-speech anc (s .group .n) (subjectOf s kind a) (f .size-high) (subject-in anc s f kind a) (Entry kind a b (subjectOf s kind a) b) (k, enters-named k, refl) b (rankAt s (subjectOf s kind a)) (seat .ordered) (enters-outside k))
+        (enter-turn anc tree (s .group .n) (subjectOf s kind a) (f .size-high) (subject-in anc s f kind a) b (rankAt s (subjectOf s kind a)) (seat .in-order) (enters-outside k))
+        (enter-speech anc (s .group .n) (subjectOf s kind a) (f .size-high) (subject-in anc s f kind a) (Entry kind a b (subjectOf s kind a) b) (k, enters-named k, refl) b (rankAt s (subjectOf s kind a)) (seat .in-order) (enters-outside k))
 
     notices-moves : kind ≡ 4 → Move anc (s .group .n) (Entry kind a b) s (after s kind a p)
-    unfolding isLiving
     notices-moves k =
-        let t = ranks-kind anc s f kind a b p e z (inr (inr k)) in
-        let d : has (s .group .dead) b ≡ true = passes (has (s .group .dead) b) (λ h. clash (eqb kind 4 && not (has (s .group .dead) b)) (and-i (eqb kind 4) (not (has (s .group .dead) b)) (eq-eqb kind 4 k) (not-i (has (s .group .dead) b) h)) (ok anc s f kind a b p e z .clean .told-dead)) in
+        let t = names-a-rank kind (inr (inr k)) in
+        let d : has (s .group .dead) b ≡ true = clean-told _ _ _ _ _ _ _ _ (ok anc s f kind a b p e z .clean) k in
         let o : b ≡ subjectOf s kind a → ⊥ = λ q. clash (has (s .group .dead) (subjectOf s kind a)) (subst (λ (x : ℕ). has (s .group .dead) x ≡ true) q d) (named-lives (t .0) (t .1)) in
         let l : b < s .group .n = clean-notice _ _ _ _ _ _ _ _ (ok anc s f kind a b p e z .clean) k in
         silent-turn 0 (t .0) (t .1) (λ x. omega arith) _ (act-notices anc (s .group .n) (s .group .dead) kind b (placeAt s a) (subjectOf s kind a) (rankAt s (subjectOf s kind a)) (rowAt s (subjectOf s kind a)) _ (λ x. omega arith) (λ x. omega arith) k refl ∙ sym (ok anc s f kind a b p e z .acted-is))
-        (notice-turn anc tree (s .group .n) (subjectOf s kind a) (f .size-high) (subject-in anc s f kind a) b (rankAt s (subjectOf s kind a)) (seat .ordered) l o)
+        (notice-turn anc tree (s .group .n) (subjectOf s kind a) (f .size-high) (subject-in anc s f kind a) b (rankAt s (subjectOf s kind a)) (seat .in-order) l o)
         (notice-speech anc (s .group .n) (subjectOf s kind a) (f .size-high) (subject-in anc s f kind a) (Entry kind a b (subjectOf s kind a) 0) 0 b (rankAt s (subjectOf s kind a)))
 
     -- a crash changes no record, and a message that is lost has a dead end
-    rest-fades : (kind ≡ 1 → ⊥) → (kind ≡ 2 → ⊥) → (kind ≡ 4 → ⊥) → Move anc (s .group .n) (Entry kind a b) s (after s kind a p)
-    unfolding namesPlace bothLive
-    rest-fades h i j =
-        fades-after (ok anc s f kind a b p e z .acted-is ∙ sym (act-nothing anc (s .group .n) (s .group .dead) kind b (placeAt s a) (subjectOf s kind a) (rankAt s (subjectOf s kind a)) (rowAt s (subjectOf s kind a)) _ h i j refl))
-        (λ t. ⊎-elim (λ (x : eqb kind 2 ≡ true). absurd (i (eqb-true kind 2 x))) (λ (x : eqb kind 5 ≡ true). dead-end x (passes-or-fails (has (s .group .dead) (placeAt s a .from))) (passes-or-fails (has (s .group .dead) (placeAt s a .to)))) (or-cases (eqb kind 2) (eqb kind 5) t))
-      where
-        dead-end : eqb kind 5 ≡ true → (has (s .group .dead) (placeAt s a .from) ≡ true) ⊎ (has (s .group .dead) (placeAt s a .from) ≡ false) → (has (s .group .dead) (placeAt s a .to) ≡ true) ⊎ (has (s .group .dead) (placeAt s a .to) ≡ false)
-            → (has (s .group .dead) (placeAt s a .from) ≡ true) ⊎ (has (s .group .dead) (placeAt s a .to) ≡ true)
-        dead-end x (inl u) v = inl u
-        dead-end x (inr u) (inl v) = inr v
-        dead-end x (inr u) (inr v) =
-            absurd (clash (eqb kind 5 && not (has (s .group .dead) (placeAt s a .from)) && not (has (s .group .dead) (placeAt s a .to)))
-            (and-i (eqb kind 5 && not (has (s .group .dead) (placeAt s a .from))) (not (has (s .group .dead) (placeAt s a .to))) (and-i (eqb kind 5) (not (has (s .group .dead) (placeAt s a .from))) x (not-i (has (s .group .dead) (placeAt s a .from)) u)) (not-i (has (s .group .dead) (placeAt s a .to)) v))
-            (ok anc s f kind a b p e z .clean .end-dead))
+    rest-by-loss : (kind ≡ 1 → ⊥) → (kind ≡ 2 → ⊥) → (kind ≡ 4 → ⊥) → Move anc (s .group .n) (Entry kind a b) s (after s kind a p)
+    rest-by-loss h i j =
+        by-loss-after (ok anc s f kind a b p e z .acted-is ∙ sym (act-nothing anc (s .group .n) (s .group .dead) kind b (placeAt s a) (subjectOf s kind a) (rankAt s (subjectOf s kind a)) (rowAt s (subjectOf s kind a)) _ h i j refl))
+        (λ t. ⊎-elim (λ (x : kind ≡ 2). absurd (i x)) (λ (x : kind ≡ 5). clean-end _ _ _ _ _ _ _ _ (ok anc s f kind a b p e z .clean) x) (place-kinds kind t))
 
     -- ---- a delivery
 
     module _ (k : kind ≡ 2) where
-      message : Lawful (s .group .n) (s .group .dead) (placeAt s a)
-      message = f .lawful a (listed-there anc s f kind a b p e z (places-kind anc s f kind a b p e z k))
+      message : MessageInOrder (s .group .n) (s .group .dead) (placeAt s a)
+      message = f .message a (listed-there anc s f kind a b p e z (names-a-place kind k))
 
       receiver : placeAt s a .to ≡ subjectOf s kind a
-      receiver = sym (subject-receives s kind a (places-kind anc s f kind a b p e z k))
+      receiver = sym (subject-receives s kind a (names-a-place kind k))
 
       acted-delivered : p .acted ≡ delivered anc (s .group .n) (s .group .dead) (subjectOf s kind a) (placeAt s a) (rankAt s (subjectOf s kind a)) (rowAt s (subjectOf s kind a))
       acted-delivered = ok anc s f kind a b p e z .acted-is ∙ sym (act-delivers anc (s .group .n) (s .group .dead) kind b (placeAt s a) (subjectOf s kind a) (rankAt s (subjectOf s kind a)) (rowAt s (subjectOf s kind a)) _ (λ x. omega arith) k refl)
 
       -- to a dead rank, or from a sender that the receiver has marked, who is dead
-      dropped-fades : has (s .group .dead) (subjectOf s kind a) || has (rankAt s (subjectOf s kind a) .marks) (placeAt s a .from) ≡ true → Move anc (s .group .n) (Entry kind a b) s (after s kind a p)
-      dropped-fades t =
-          fades-after (acted-delivered ∙ sym (deliver-dropped anc (s .group .n) (s .group .dead) (subjectOf s kind a) (placeAt s a) (rankAt s (subjectOf s kind a)) (rowAt s (subjectOf s kind a)) _ _ _ refl refl t refl))
-          (λ x. ⊎-elim (λ (u : has (s .group .dead) (subjectOf s kind a) ≡ true). inr (subst (λ (y : ℕ). has (s .group .dead) y ≡ true) (sym receiver) u)) (λ (u : has (rankAt s (subjectOf s kind a) .marks) (placeAt s a .from) ≡ true). inl (seat .marks-dead (placeAt s a .from) u)) (or-cases (has (s .group .dead) (subjectOf s kind a)) (has (rankAt s (subjectOf s kind a) .marks) (placeAt s a .from)) t))
+      dropped-by-loss : Dropped (s .group .dead) (subjectOf s kind a) (placeAt s a) (rankAt s (subjectOf s kind a)) → idle (rankAt s (subjectOf s kind a)) (rowAt s (subjectOf s kind a)) ≡ p .acted → Move anc (s .group .n) (Entry kind a b) s (after s kind a p)
+      dropped-by-loss t o =
+          by-loss-after (sym o)
+          (λ x. ⊎-elim (λ (u : has (s .group .dead) (subjectOf s kind a) ≡ true). inr (subst (λ (y : ℕ). has (s .group .dead) y ≡ true) (sym receiver) u)) (λ (u : has (rankAt s (subjectOf s kind a) .marks) (placeAt s a .from) ≡ true). inl (seat .marks-dead (placeAt s a .from) u)) t)
 
-      module _ (t : has (s .group .dead) (subjectOf s kind a) || has (rankAt s (subjectOf s kind a) .marks) (placeAt s a .from) ≡ false) where
-        living : has (s .group .dead) (subjectOf s kind a) ≡ false
-        living = or-neither (has (s .group .dead) (subjectOf s kind a)) (has (rankAt s (subjectOf s kind a) .marks) (placeAt s a .from)) t .0
-
-        unmarked : has (rankAt s (subjectOf s kind a) .marks) (placeAt s a .from) ≡ false
-        unmarked = or-neither (has (s .group .dead) (subjectOf s kind a)) (has (rankAt s (subjectOf s kind a) .marks) (placeAt s a .from)) t .1
-
-        taken-turn : (word : ℕ) → placeAt s a .kind ≡ word → (w : Acted) → w ≡ p .acted → Turning anc (s .group .n) (subjectOf s kind a) word (placeAt s a .from) (rankAt s (subjectOf s kind a)) w → Speaking anc (s .group .n) (subjectOf s kind a) word (placeAt s a .from) (placeAt s a .word) (Entry kind a b (subjectOf s kind a) (placeAt s a .word)) (rankAt s (subjectOf s kind a)) w
+      module _ (t : Plans.Undropped (s .group .dead) (subjectOf s kind a) (placeAt s a) (rankAt s (subjectOf s kind a))) where
+        taken-turn : (word : ℕ) → placeAt s a .kind ≡ word → (w : Acted) → w ≡ p .acted → ActedTurn anc (s .group .n) (subjectOf s kind a) word (placeAt s a .from) (rankAt s (subjectOf s kind a)) w → ActedSpeech anc (s .group .n) (subjectOf s kind a) word (placeAt s a .from) (placeAt s a .word) (Entry kind a b (subjectOf s kind a) (placeAt s a .word)) (rankAt s (subjectOf s kind a)) w
             → Move anc (s .group .n) (Entry kind a b) s (after s kind a p)
-        taken-turn word j w o u v = turns-after word (placeAt s a .from) (placeAt s a .word) (λ x. omega arith) living w o u v (λ y. ((j, refl, receiver), refl)) (λ d. (places-kind anc s f kind a b p e z k, unmarked))
+        taken-turn word j w o u v = by-rank-after word (placeAt s a .from) (placeAt s a .word) (λ x. omega arith) (t .lives) w o u v (λ y. ((j, refl, receiver), refl)) (λ d. (names-a-place kind k, t .unmarked))
 
-        up-moves : placeAt s a .kind ≡ up → Move anc (s .group .n) (Entry kind a b) s (after s kind a p)
-        up-moves w = taken-turn up w _ (deliver-up anc (s .group .n) (s .group .dead) (subjectOf s kind a) (placeAt s a) (rankAt s (subjectOf s kind a)) (rowAt s (subjectOf s kind a)) _ _ _ refl refl t w refl ∙ sym acted-delivered)
-            (up-turn anc tree (s .group .n) (subjectOf s kind a) (f .size-high) (subject-in anc s f kind a) (placeAt s a .from) (placeAt s a .word) (rankAt s (subjectOf s kind a)) (seat .ordered))
-            (up-speech anc (s .group .n) (subjectOf s kind a) (f .size-high) (subject-in anc s f kind a) (Entry kind a b (subjectOf s kind a) (placeAt s a .word)) (placeAt s a .from) (placeAt s a .word) (rankAt s (subjectOf s kind a)) (seat .ordered))
+        up-moves : placeAt s a .kind ≡ up → takingUp anc (s .group .n) (subjectOf s kind a) (placeAt s a .from) (placeAt s a .word) (rankAt s (subjectOf s kind a)) ≡ p .acted → Move anc (s .group .n) (Entry kind a b) s (after s kind a p)
+        up-moves w o = taken-turn up w _ o
+            (up-turn anc tree (s .group .n) (subjectOf s kind a) (f .size-high) (subject-in anc s f kind a) (placeAt s a .from) (placeAt s a .word) (rankAt s (subjectOf s kind a)) (seat .in-order))
+            (up-speech anc (s .group .n) (subjectOf s kind a) (f .size-high) (subject-in anc s f kind a) (Entry kind a b (subjectOf s kind a) (placeAt s a .word)) (placeAt s a .from) (placeAt s a .word) (rankAt s (subjectOf s kind a)) (seat .in-order))
 
-        down-moves : placeAt s a .kind ≡ down → Move anc (s .group .n) (Entry kind a b) s (after s kind a p)
-        down-moves w = taken-turn down w _ (deliver-down anc (s .group .n) (s .group .dead) (subjectOf s kind a) (placeAt s a) (rankAt s (subjectOf s kind a)) (rowAt s (subjectOf s kind a)) _ _ _ refl refl t (λ x. omega arith) w refl ∙ sym acted-delivered)
+        down-moves : placeAt s a .kind ≡ down → takingDown anc (s .group .n) (subjectOf s kind a) (placeAt s a .word) (rankAt s (subjectOf s kind a)) ≡ p .acted → Move anc (s .group .n) (Entry kind a b) s (after s kind a p)
+        down-moves w o = taken-turn down w _ o
             (down-turn anc tree (s .group .n) (subjectOf s kind a) (f .size-high) (subject-in anc s f kind a) (placeAt s a .from) (placeAt s a .word) (rankAt s (subjectOf s kind a)))
             (down-speech anc (s .group .n) (subjectOf s kind a) (f .size-high) (subject-in anc s f kind a) (Entry kind a b (subjectOf s kind a) (placeAt s a .word)) (placeAt s a .from) (placeAt s a .word) (rankAt s (subjectOf s kind a)))
 
-        ask-moves : placeAt s a .kind ≡ ask → Move anc (s .group .n) (Entry kind a b) s (after s kind a p)
-        ask-moves w =
-            let l : placeAt s a .from < subjectOf s kind a = asker-below anc (s .group .n) (s .group .dead) (subjectOf s kind a) (f .size-high) (subject-in anc s f kind a) (placeAt s a) message receiver w living in
-            taken-turn ask w _ (deliver-ask anc (s .group .n) (s .group .dead) (subjectOf s kind a) (placeAt s a) (rankAt s (subjectOf s kind a)) (rowAt s (subjectOf s kind a)) _ _ _ refl refl t (λ x. omega arith) (λ x. omega arith) refl ∙ sym acted-delivered)
-            (ask-turn anc tree (s .group .n) (subjectOf s kind a) (f .size-high) (subject-in anc s f kind a) (placeAt s a .from) (rankAt s (subjectOf s kind a)) (seat .ordered) l unmarked)
+        ask-moves : placeAt s a .kind ≡ ask → takingAsk anc (s .group .n) (subjectOf s kind a) (placeAt s a .from) (rankAt s (subjectOf s kind a)) ≡ p .acted → Move anc (s .group .n) (Entry kind a b) s (after s kind a p)
+        ask-moves w o =
+            let l : placeAt s a .from < subjectOf s kind a = asker-below anc (s .group .n) (s .group .dead) (subjectOf s kind a) (f .size-high) (subject-in anc s f kind a) (placeAt s a) message receiver w (t .lives) in
+            taken-turn ask w _ o
+            (ask-turn anc tree (s .group .n) (subjectOf s kind a) (f .size-high) (subject-in anc s f kind a) (placeAt s a .from) (rankAt s (subjectOf s kind a)) (seat .in-order) l (t .unmarked))
             (ask-speech anc (s .group .n) (subjectOf s kind a) (f .size-high) (subject-in anc s f kind a) (Entry kind a b (subjectOf s kind a) (placeAt s a .word)) (placeAt s a .from) (placeAt s a .word) (rankAt s (subjectOf s kind a)) l)
 
-        taken-moves : Move anc (s .group .n) (Entry kind a b) s (after s kind a p)
-        taken-moves = ⊎-elim up-moves (λ (x : placeAt s a .kind ≡ up → ⊥). ⊎-elim down-moves (λ (y : placeAt s a .kind ≡ down → ⊥). ask-moves (third (placeAt s a .kind) (message .kind-low) (message .kind-high) x y)) (eq-or-ne (placeAt s a .kind) down)) (eq-or-ne (placeAt s a .kind) up)
-          where
-            third : (w : ℕ) → up ≤ w → w ≤ ask → (w ≡ up → ⊥) → (w ≡ down → ⊥) → w ≡ ask
-            third w l h x y = omega arith
-
       delivers-moves : Move anc (s .group .n) (Entry kind a b) s (after s kind a p)
-      delivers-moves = ⊎-elim dropped-fades taken-moves (passes-or-fails (has (s .group .dead) (subjectOf s kind a) || has (rankAt s (subjectOf s kind a) .marks) (placeAt s a .from)))
+      delivers-moves =
+          delivered-by anc (s .group .n) (s .group .dead) (subjectOf s kind a) (placeAt s a) (rankAt s (subjectOf s kind a)) (rowAt s (subjectOf s kind a)) (λ w. w ≡ p .acted → Move anc (s .group .n) (Entry kind a b) s (after s kind a p))
+          dropped-by-loss up-moves down-moves (λ t x y. ask-moves t (third (placeAt s a .kind) (message .kind-low) (message .kind-high) x y)) (sym acted-delivered)
+        where
+          third : (w : ℕ) → up ≤ w → w ≤ ask → (w ≡ up → ⊥) → (w ≡ down → ⊥) → w ≡ ask
+          third w l h x y = omega arith
 
     plan-moves : Move anc (s .group .n) (Entry kind a b) s (after s kind a p)
-    plan-moves = ⊎-elim enters-moves (λ (x : kind ≡ 1 → ⊥). ⊎-elim delivers-moves (λ (y : kind ≡ 2 → ⊥). ⊎-elim notices-moves (rest-fades x y) (eq-or-ne kind 4)) (eq-or-ne kind 2)) (eq-or-ne kind 1)
+    plan-moves = ⊎-elim enters-moves (λ (x : kind ≡ 1 → ⊥). ⊎-elim delivers-moves (λ (y : kind ≡ 2 → ⊥). ⊎-elim notices-moves (rest-by-loss x y) (eq-or-ne kind 4)) (eq-or-ne kind 2)) (eq-or-ne kind 1)
 
 -- ---- the theorem
 
 -- an accepted event on a state in order is an accepted step
-event-accepted : (anc : ℕ → ℕ) (s : State) (kind a b : ℕ) → Orderly anc s → event anc s kind a b .answer ≡ 0 → stepped anc s kind a b .answer ≡ 0
+event-accepted : (anc : ℕ → ℕ) (s : State) (kind a b : ℕ) → InOrder anc s → event anc s kind a b .answer ≡ 0 → stepped anc s kind a b .answer ≡ 0
 event-accepted anc s kind a b o z = sym (ap (λ (x : Stepped). x .answer) (event-steps-on anc s kind a b o)) ∙ z
 
 -- an accepted step carries its plan out
@@ -283,15 +269,15 @@ unfolding stepped carried
 step-applied anc s kind a b z = rw (eq-eqb (planOf anc s kind a b .answer) 0 (step-plan anc s kind a b z))
 
 -- An accepted event on a state in order is a move; only kind 1 enters a rank, and that one with the word of the event.
-pub event-moves : (anc : ℕ → ℕ) → Ancestry anc → (s : State) (kind a b : ℕ) → Orderly anc s → event anc s kind a b .answer ≡ 0 → Move anc (s .group .n) (Entry kind a b) s (event anc s kind a b .state)
+pub event-moves : (anc : ℕ → ℕ) → Ancestry anc → (s : State) (kind a b : ℕ) → InOrder anc s → event anc s kind a b .answer ≡ 0 → Move anc (s .group .n) (Entry kind a b) s (event anc s kind a b .state)
 event-moves anc tree s kind a b o z =
     let y = event-accepted anc s kind a b o z in
     subst (Move anc (s .group .n) (Entry kind a b) s) (sym (ap (λ (x : Stepped). x .state) (event-steps-on anc s kind a b o) ∙ step-applied anc s kind a b y))
-    (plan-moves anc s (orderly-facts anc s o) kind a b (planOf anc s kind a b) refl (step-plan anc s kind a b y) tree)
+    (plan-moves anc s (in-order-facts anc s o) kind a b (planOf anc s kind a b) refl (step-plan anc s kind a b y) tree)
 
 -- A rank that enters was outside.
-pub enters-from-outside : (anc : ℕ → ℕ) (s : State) (a b : ℕ) → Orderly anc s → event anc s 1 a b .answer ≡ 0 → rankAt s a .phase ≡ outside
+pub enters-from-outside : (anc : ℕ → ℕ) (s : State) (a b : ℕ) → InOrder anc s → event anc s 1 a b .answer ≡ 0 → rankAt s a .phase ≡ outside
 enters-from-outside anc s a b o z =
-    let f = orderly-facts anc s o in
+    let f = in-order-facts anc s o in
     let y = step-plan anc s 1 a b (event-accepted anc s 1 a b o z) in
     subst (λ (x : ℕ). rankAt s x .phase ≡ outside) (enters-named anc s f 1 a b (planOf anc s 1 a b) refl y refl) (enters-outside anc s f 1 a b (planOf anc s 1 a b) refl y refl)

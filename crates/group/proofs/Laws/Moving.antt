@@ -16,46 +16,51 @@ use Rattle.tree.proofs.Laws.Parents.{marked-more}
 use Rattle.tree.proofs.Laws.Mending.{table-moves-exactly, table-free}
 use Rattle.rank.specs.declared.Rank.{Rank}
 use Rattle.rank.specs.Words.{up, down, ask}
-use Rattle.group.specs.declared.State.{State}
+use Rattle.net.proofs.Facts.{MessageInOrder}
+use Rattle.refusals.proofs.Laws.Refusing.{clean-rank, clean-place, clean-notice, names-a-rank, names-a-place}
+use Rattle.state.specs.declared.State.{State}
+use Rattle.state.specs.States.{rankAt, rowAt, placeAt}
+use Rattle.order.proofs.Facts.{InOrderFacts}
+use Rattle.order.specs.Between.{InOrder}
+use Rattle.order.proofs.Laws.Ordering.{in-order-facts}
+use Rattle.plans.proofs.Laws.Cases.{is-dropped, is-undropped}
+use Rattle.plans.proofs.Laws.Knowing as Knowing
 use Rattle.group.specs.declared.Stepped.{Stepped}
-use Rattle.group.specs.States.{rankAt, rowAt, placeAt}
-use Rattle.group.specs.Refusing.{namesRank, namesPlace}
-use Rattle.group.specs.Events.{applied, subjectOf, stepped}
-use Rattle.group.specs.Order.{Lawful, Facts, Orderly, event}
+use Rattle.group.specs.Events.{applied, subjectOf, stepped, event}
 use Rattle.group.specs.Reaching.{MovesExactly, tableBelow, AskMoves}
-use Rattle.group.proofs.Laws.Ordering.{orderly-facts}
-use Rattle.group.proofs.Laws.Stepping.{step-taken, clean-rank, clean-place, clean-notice, subject-named, subject-receives, subject-in}
+use Rattle.group.proofs.Laws.Stepping.{step-taken, subject-named, subject-receives, subject-in}
 use Rattle.group.proofs.Laws.Preserving.{stepped-cases, step-changes-one, step-keeps-order}
-use Rattle.group.proofs.Laws.Knowing.{event-steps-on, actingOn, step-acts, acting-notice, acting-ask, acting-dropped, acting-other}
+use Rattle.group.proofs.Laws.Events.{event-steps-on}
+use Rattle.group.proofs.Laws.Knowing.{actingOn, step-acts}
 
 -- ---- before and after an event
 
-pub event-keeps-order : (anc : ℕ → ℕ) (s : State) (kind a b : ℕ) → Orderly anc s → Orderly anc (event anc s kind a b .state)
-event-keeps-order anc s kind a b o = subst (λ (x : Stepped). Orderly anc (x .state)) (sym (event-steps-on anc s kind a b o)) (step-keeps-order anc s kind a b o)
+pub event-keeps-order : (anc : ℕ → ℕ) (s : State) (kind a b : ℕ) → InOrder anc s → InOrder anc (event anc s kind a b .state)
+event-keeps-order anc s kind a b o = subst (λ (x : Stepped). InOrder anc (x .state)) (sym (event-steps-on anc s kind a b o)) (step-keeps-order anc s kind a b o)
 
 step-size : (anc : ℕ → ℕ) (s : State) (kind a b : ℕ) → stepped anc s kind a b .state .group .n ≡ s .group .n
 unfolding applied
 step-size anc s kind a b = stepped-cases anc s kind a b (λ t. t .group .n ≡ s .group .n) refl (λ p e z. refl)
 
-pub event-size : (anc : ℕ → ℕ) (s : State) (kind a b : ℕ) → Orderly anc s → event anc s kind a b .state .group .n ≡ s .group .n
+pub event-size : (anc : ℕ → ℕ) (s : State) (kind a b : ℕ) → InOrder anc s → event anc s kind a b .state .group .n ≡ s .group .n
 event-size anc s kind a b o = ap (λ (x : Stepped). x .state .group .n) (event-steps-on anc s kind a b o) ∙ step-size anc s kind a b
 
-table-fresh : (anc : ℕ → ℕ) (s : State) (n i : ℕ) → Orderly anc s → s .group .n ≡ n → i < n → rowAt s i ≡ fresh anc n (rankAt s i .marks)
-table-fresh anc s n i o e l = orderly-facts anc s o .seated i (omega arith) .table ∙ ap (λ (m : ℕ). fresh anc m (rankAt s i .marks)) e
+table-fresh : (anc : ℕ → ℕ) (s : State) (n i : ℕ) → InOrder anc s → s .group .n ≡ n → i < n → rowAt s i ≡ fresh anc n (rankAt s i .marks)
+table-fresh anc s n i o e l = in-order-facts anc s o .member i (omega arith) .table ∙ ap (λ (m : ℕ). fresh anc m (rankAt s i .marks)) e
 
 -- No link ends at a rank that is known to be dead.
-pub link-free : (anc : ℕ → ℕ) (s : State) (i p k : ℕ) → Orderly anc s → i < s .group .n → p < s .group .n → has (rankAt s i .marks) k ≡ true → getD (rowAt s i) p 0 ≡ k → ⊥
+pub link-free : (anc : ℕ → ℕ) (s : State) (i p k : ℕ) → InOrder anc s → i < s .group .n → p < s .group .n → has (rankAt s i .marks) k ≡ true → getD (rowAt s i) p 0 ≡ k → ⊥
 link-free anc s i p k o l b h e =
-    let f = orderly-facts anc s o in
+    let f = in-order-facts anc s o in
     let small : s .group .n ≤ 64 = f .size-high in
-    let c : k < s .group .n = f .seated i l .ordered .fair .marks-in .inside k h in
+    let c : k < s .group .n = f .member i l .in-order .to-settle .marks-in .inside k h in
     table-free anc (s .group .n) (rankAt s i .marks) k p small (omega arith) b h (sym (ap (λ (t : List ℕ). getD t p 0) (table-fresh anc s (s .group .n) i o refl l)) ∙ e)
 
 -- ---- any accepted event
 
-module _ (anc : ℕ → ℕ) (s : State) (o : Orderly anc s) (kind a b : ℕ) (z : event anc s kind a b .answer ≡ 0) where
-  facts : Facts anc s
-  facts = orderly-facts anc s o
+module _ (anc : ℕ → ℕ) (s : State) (o : InOrder anc s) (kind a b : ℕ) (z : event anc s kind a b .answer ≡ 0) where
+  facts : InOrderFacts anc s
+  facts = in-order-facts anc s o
 
   steps : event anc s kind a b ≡ stepped anc s kind a b
   steps = event-steps-on anc s kind a b o
@@ -91,17 +96,16 @@ module _ (anc : ℕ → ℕ) (s : State) (o : Orderly anc s) (kind a b : ℕ) (z
       ⊎-elim (λ (q : j ≡ subjectOf s kind a). subst (λ (i : ℕ). rowAt (event anc s kind a b .state) i ≡ rowAt s i) (sym q) (subject-stays e)) (λ (q : j ≡ subjectOf s kind a → ⊥). others-stay j q .1) (eq-or-ne j (subjectOf s kind a))
 
   -- a message that is delivered is a lawful one
-  delivered-lawful : kind ≡ 2 → Lawful (s .group .n) (s .group .dead) (placeAt s a)
-  unfolding namesPlace
-  delivered-lawful k = facts .lawful a (clean-place _ _ _ _ _ _ _ _ (step-taken anc s kind a b accepted-step .clean) (rw k))
+  delivered-in-order : kind ≡ 2 → MessageInOrder (s .group .n) (s .group .dead) (placeAt s a)
+  delivered-in-order k = facts .message a (clean-place _ _ _ _ _ _ _ _ (step-taken anc s kind a b accepted-step .clean) (names-a-place kind k))
 
   -- So do all but a notice and the delivery of an ASK.
   pub others-move-nothing : (kind ≡ 4 → ⊥) → (kind ≡ 2 → placeAt s a .kind ≡ ask → ⊥) → (j : ℕ) → rowAt (event anc s kind a b .state) j ≡ rowAt s j
-  others-move-nothing h k = rows-stay (acting-other anc _ _ b _ _ _ _ kind h word)
+  others-move-nothing h k = rows-stay (Knowing.other-calm anc _ _ b _ _ _ _ kind h word .0)
     where
       word : kind ≡ 2 → (placeAt s a .kind ≡ up) ⊎ (placeAt s a .kind ≡ down)
       word e =
-          let l = delivered-lawful e in
+          let l = delivered-in-order e in
           ⊎-elim (λ (u : placeAt s a .kind ≡ up). inl u) (λ (u : placeAt s a .kind ≡ up → ⊥). inr (second (l .kind-low) (l .kind-high) u (k e))) (eq-or-ne (placeAt s a .kind) up)
         where
           second : up ≤ placeAt s a .kind → placeAt s a .kind ≤ ask → (placeAt s a .kind ≡ up → ⊥) → (placeAt s a .kind ≡ ask → ⊥) → placeAt s a .kind ≡ down
@@ -109,19 +113,19 @@ module _ (anc : ℕ → ℕ) (s : State) (o : Orderly anc s) (kind a b : ℕ) (z
 
 -- ---- a notice
 
-module _ (anc : ℕ → ℕ) (s : State) (o : Orderly anc s) (a b : ℕ) (z : event anc s 4 a b .answer ≡ 0) where
+module _ (anc : ℕ → ℕ) (s : State) (o : InOrder anc s) (a b : ℕ) (z : event anc s 4 a b .answer ≡ 0) where
   -- it is about rank a, and both ranks are of the group
   pub notice-about : (subjectOf s 4 a ≡ a) × (a < s .group .n) × (b < s .group .n)
-  unfolding namesRank namesPlace
   notice-about =
       let c = step-taken anc s 4 a b (accepted-step anc s o 4 a b z) .clean in
-      let l = clean-rank _ _ _ _ _ _ _ _ c refl .0 in
-      (subject-named s 4 a refl l, l, clean-notice _ _ _ _ _ _ _ _ c refl)
+      let t = names-a-rank 4 (inr (inr refl)) in
+      let l = clean-rank _ _ _ _ _ _ _ _ c (t .0) .0 in
+      (subject-named s 4 a (t .1) l, l, clean-notice _ _ _ _ _ _ _ _ c refl)
 
   pub notice-knows : rankAt (event anc s 4 a b .state) a .marks ≡ add (rankAt s a .marks) b
   notice-knows =
       subst (λ (i : ℕ). rankAt (event anc s 4 a b .state) i .marks ≡ add (rankAt s i .marks) b) (notice-about .0)
-      (subject-knows anc s o 4 a b z (add (rankAt s (subjectOf s 4 a) .marks) b) (acting-notice anc _ _ b _ _ _ _))
+      (subject-knows anc s o 4 a b z (add (rankAt s (subjectOf s 4 a) .marks) b) (Knowing.notice-knows anc _ _ b _ _ _ _))
 
   notice-table : rowAt (event anc s 4 a b .state) a ≡ fresh anc (s .group .n) (add (rankAt s a .marks) b)
   notice-table = after-fresh anc s o 4 a b z a (notice-about .1) ∙ ap (fresh anc (s .group .n)) notice-knows
@@ -129,7 +133,7 @@ module _ (anc : ℕ → ℕ) (s : State) (o : Orderly anc s) (a b : ℕ) (z : ev
   -- One newly known death moves exactly the links that ended at the dead rank.
   pub notice-moves : MovesExactly (s .group .n) b (rowAt s a) (rowAt (event anc s 4 a b .state) a)
   notice-moves p l =
-      let small : s .group .n ≤ 64 = orderly-facts anc s o .size-high in
+      let small : s .group .n ≤ 64 = in-order-facts anc s o .size-high in
       let c : b < s .group .n = notice-about .2 in
       rw (notice-table, table-fresh anc s (s .group .n) a o refl (notice-about .1)) (table-moves-exactly anc (s .group .n) (rankAt s a .marks) b p small (omega arith) l)
 
@@ -139,24 +143,23 @@ module _ (anc : ℕ → ℕ) (s : State) (o : Orderly anc s) (a b : ℕ) (z : ev
 
 -- ---- a delivery
 
-module _ (anc : ℕ → ℕ) (s : State) (o : Orderly anc s) (a b : ℕ) (z : event anc s 2 a b .answer ≡ 0) where
+module _ (anc : ℕ → ℕ) (s : State) (o : InOrder anc s) (a b : ℕ) (z : event anc s 2 a b .answer ≡ 0) where
   -- it is about the message's receiver
   pub delivery-about : subjectOf s 2 a ≡ placeAt s a .to
-  unfolding namesPlace
-  delivery-about = subject-receives s 2 a refl
+  delivery-about = subject-receives s 2 a (names-a-place 2 refl)
 
   -- A message to a dead rank, or from a sender that the receiver has marked, leaves every row as it was.
   pub dropped-moves-nothing : has (s .group .dead) (placeAt s a .to) || has (rankAt s (placeAt s a .to) .marks) (placeAt s a .from) ≡ true → (j : ℕ) → rowAt (event anc s 2 a b .state) j ≡ rowAt s j
   dropped-moves-nothing t =
       rows-stay anc s o 2 a b z
-      (acting-dropped anc _ _ b _ _ _ _ (subst (λ (i : ℕ). has (s .group .dead) i || has (rankAt s i .marks) (placeAt s a .from) ≡ true) (sym delivery-about) t))
+      (Knowing.dropped-calm anc _ _ b _ _ _ _ (is-dropped (s .group .dead) (subjectOf s 2 a) (placeAt s a) (rankAt s (subjectOf s 2 a)) (subst (λ (i : ℕ). has (s .group .dead) i || has (rankAt s i .marks) (placeAt s a .from) ≡ true) (sym delivery-about) t)) .0)
 
   module _ (k : placeAt s a .kind ≡ ask) (t : has (s .group .dead) (placeAt s a .to) || has (rankAt s (placeAt s a .to) .marks) (placeAt s a .from) ≡ false) where
     pub ask-knows : rankAt (event anc s 2 a b .state) (placeAt s a .to) .marks ≡ union (rankAt s (placeAt s a .to) .marks) (below (placeAt s a .from))
     ask-knows =
         subst (λ (i : ℕ). rankAt (event anc s 2 a b .state) i .marks ≡ union (rankAt s i .marks) (below (placeAt s a .from))) delivery-about
         (subject-knows anc s o 2 a b z (union (rankAt s (subjectOf s 2 a) .marks) (below (placeAt s a .from)))
-        (acting-ask anc _ _ b _ _ _ _ k (subst (λ (i : ℕ). has (s .group .dead) i || has (rankAt s i .marks) (placeAt s a .from) ≡ false) (sym delivery-about) t)))
+        (Knowing.ask-knows anc _ _ b _ _ _ _ k (is-undropped (s .group .dead) (subjectOf s 2 a) (placeAt s a) (rankAt s (subjectOf s 2 a)) (subst (λ (i : ℕ). has (s .group .dead) i || has (rankAt s i .marks) (placeAt s a .from) ≡ false) (sym delivery-about) t))))
 
     -- The marks of an ASK, one after the other, each move exactly the links that ended at the rank that is marked.
     pub ask-moves : AskMoves anc (s .group .n) (rankAt s (placeAt s a .to) .marks) (placeAt s a .from) (rowAt s (placeAt s a .to)) (rowAt (event anc s 2 a b .state) (placeAt s a .to))
@@ -172,10 +175,10 @@ module _ (anc : ℕ → ℕ) (s : State) (o : Orderly anc s) (a b : ℕ) (z : ev
         marks = rankAt s (placeAt s a .to) .marks
 
         small : s .group .n ≤ 64
-        small = orderly-facts anc s o .size-high
+        small = in-order-facts anc s o .size-high
 
-        message : Lawful (s .group .n) (s .group .dead) (placeAt s a)
-        message = delivered-lawful anc s o 2 a b z refl
+        message : MessageInOrder (s .group .n) (s .group .dead) (placeAt s a)
+        message = delivered-in-order anc s o 2 a b z refl
 
         receiver : placeAt s a .to < s .group .n
         receiver = message .to-in

@@ -1,82 +1,38 @@
 -- A fresh group is in order, and an accepted event on a state in order gives a state in order. Over any ancestor sets. Assumes nothing.
 use mathlib.Core.Path.{_≡_, refl, sym, ap, ap₂, subst, _∙_}
-use mathlib.Core.Bool.{Bool, true, false, cond, _&&_}
+use mathlib.Core.Bool.{Bool, true, false, cond}
 use mathlib.Core.List.{List, [], _++_}
 use mathlib.Core.Logic.{_⊎_, inl, inr, ⊎-elim}
 use Prim.Native.Nat.{ℕ, _+_, _-_, _≤_, _<_}
 use native.Mathlib.Omega.{arith}
 use lib.Dec.{eqb}
-use lib.ListN.{length, getD, set, length-set, length-append, length-replicate, getD-replicate}
+use lib.ListN.{length, getD, set, length-set, length-append}
 use lib.Seq.{getD-set-same, getD-set-other, length-take-le, getD-take}
 use borrow.Author.Tests.{eqb-true, eq-eqb}
 use Rattle.sets.specs.Sets.{has, only, add, minus, below}
-use Rattle.sets.proofs.Laws.Bools.{clash, eq-or-ne, and-i, or-cases, same-test}
+use Rattle.sets.proofs.Laws.Bools.{clash, eq-or-ne, or-cases, same-test}
 use Rattle.sets.proofs.Laws.Members.{ext, has-zero, has-only, has-add, has-add-more, has-add-other, has-below-lt, minus-l, minus-r, minus-i}
-use Rattle.tree.specs.Tree.{fresh}
-use Rattle.tree.proofs.Laws.Rows.{length-row, getD-row}
 use Rattle.rank.specs.declared.Rank.{Rank}
 use Rattle.rank.specs.declared.Message.{Message}
-use Rattle.rank.specs.Sends.{letters}
-use Rattle.rank.specs.Records.{freshRank}
+use Rattle.rank.specs.Sends.{letters, size}
 use Rattle.rank.proofs.Laws.Letters.{length-letters}
-use Rattle.rank.proofs.Laws.Keeping.{fresh-ordered, fresh-marks}
-use Rattle.group.specs.declared.State.{State}
-use Rattle.group.specs.declared.Plan.{Plan}
+use Rattle.rank.proofs.Facts.{MemberInOrder}
+use Rattle.net.specs.Net.{zeroMessage, without}
+use Rattle.net.proofs.Facts.{MessageInOrder}
+use Rattle.net.proofs.Laws.Net.{padded-long, padded-in, padded-past, length-without}
+use Rattle.net.proofs.Laws.Lists.{any-default, AllInOrder, message-more, all-append, all-without, all-letters}
+use Rattle.refusals.specs.Refusing.{namesRank, namesPlace}
+use Rattle.refusals.proofs.Laws.Refusing.{clean-place, clean-rank, clean-notice, clean-outside, clean-told, clean-others, names-a-rank, names-a-place}
+use Rattle.state.specs.declared.State.{State}
+use Rattle.state.specs.States.{zeroRank, rankAt, rowAt, placeAt, flying}
+use Rattle.order.proofs.Facts.{InOrderFacts}
+use Rattle.order.specs.Between.{InOrder}
+use Rattle.order.proofs.Laws.Ordering.{in-order-facts, facts-in-order}
+use Rattle.plans.specs.declared.Plan.{Plan}
+use Rattle.plans.proofs.Laws.Acting.{Outcome, acting-outcome}
 use Rattle.group.specs.declared.Stepped.{Stepped}
-use Rattle.group.specs.Net.{zeroMessage, without}
-use Rattle.group.specs.States.{zeroRank, rankAt, rowAt, placeAt, flying}
-use Rattle.group.specs.Refusing.{namesRank, namesPlace, isLast}
-use Rattle.group.specs.Events.{size, posted, placed, applied, refused, carried, subjectOf, planOf, stepped}
-use Rattle.group.specs.Starting.{firstRank, firstRow, freshState}
-use Rattle.group.specs.Order.{Lawful, Seated, Facts, Orderly}
-use Rattle.group.proofs.Laws.Net.{padded-long, padded-in, padded-past, length-without}
-use Rattle.group.proofs.Laws.Ordering.{orderly-facts, facts-orderly}
-use Rattle.group.proofs.Laws.Starting.{first-rank-in, first-rank-past, first-row-in, first-row-past}
-use Rattle.group.proofs.Laws.Stepping.{Taken, plan-taken, clean-place, clean-rank, clean-notice, subject-named, subject-receives, subject-in}
-use Rattle.group.proofs.Laws.Acting.{Outcome, acting-outcome}
-use Rattle.group.proofs.Laws.Lists.{any-default, AllLawful, lawful-more, all-append, all-without, all-letters}
-
--- ---- a fresh group
-
-pub fresh-facts : (anc : ℕ → ℕ) (n : ℕ) → 0 < n → n ≤ 64 → Facts anc (freshState anc n)
-unfolding freshState rankAt rowAt placeAt
-fresh-facts anc n low high = record {
-  shaped = record { ranks-long = length-row (firstRank anc n) 64; rows-long = length-row (firstRow anc n) 64; net-long = length-replicate 128 zeroMessage };
-  size-low = low;
-  size-high = high;
-  lives = λ e. clash (has (minus (below n) 0) 0) (minus-i (below n) 0 0 (has-below-lt n 0 low) (has-zero 0)) (ap (λ (w : ℕ). has w 0) e ∙ has-zero 0);
-  dead-in = λ k h. absurd (clash (has 0 k) h (has-zero k));
-  count-le = omega arith;
-  seated = λ i l. subst₂′ i l;
-  stranger = λ i l b. (getD-row (firstRank anc n) 64 i zeroRank b ∙ sym (first-rank-past anc n i l), getD-row (firstRow anc n) 64 i [] b ∙ sym (first-row-past anc n i l));
-  lawful = λ i l. absurd (omega arith);
-  vacant = λ i l b. getD-replicate 128 i zeroMessage zeroMessage b;
-}
-  where
-    here : (i : ℕ) → i < n → getD (Rattle.tree.specs.Tree.row (firstRank anc n) 64) i zeroRank ≡ freshRank anc n i
-    here i l = getD-row (firstRank anc n) 64 i zeroRank (omega arith) ∙ first-rank-in anc n i l
-
-    line : (i : ℕ) → i < n → getD (Rattle.tree.specs.Tree.row (firstRow anc n) 64) i [] ≡ fresh anc n 0
-    line i l = getD-row (firstRow anc n) 64 i [] (omega arith) ∙ first-row-in anc n i l
-
-    seat : (i : ℕ) → i < n → Seated anc n 0 i (freshRank anc n i) (fresh anc n 0)
-    seat i l = record { ordered = fresh-ordered anc n i high l; table = sym (ap (fresh anc n) (fresh-marks anc n i)); marks-dead = λ k h. absurd (clash (has 0 k) (subst (λ (w : ℕ). has w k ≡ true) (fresh-marks anc n i) h) (has-zero k)) }
-
-    subst₂′ : (i : ℕ) → i < n → Seated anc n 0 i (getD (Rattle.tree.specs.Tree.row (firstRank anc n) 64) i zeroRank) (getD (Rattle.tree.specs.Tree.row (firstRow anc n) 64) i [])
-    subst₂′ i l = rw (here i l, line i l) (seat i l)
-
--- A fresh group is in order.
-pub fresh-orderly : (anc : ℕ → ℕ) (n : ℕ) → 0 < n → n ≤ 64 → Orderly anc (freshState anc n)
-fresh-orderly anc n low high = facts-orderly anc (freshState anc n) (fresh-facts anc n low high)
-
--- its ranks are fresh and nothing is in flight
-pub fresh-rank-at : (anc : ℕ → ℕ) (n i : ℕ) → n ≤ 64 → i < n → rankAt (freshState anc n) i ≡ freshRank anc n i
-unfolding freshState rankAt
-fresh-rank-at anc n i high l = getD-row (firstRank anc n) 64 i zeroRank (omega arith) ∙ first-rank-in anc n i l
-
-pub fresh-count : (anc : ℕ → ℕ) (n : ℕ) → freshState anc n .group .count ≡ 0
-unfolding freshState
-fresh-count anc n = refl
+use Rattle.group.specs.Events.{posted, applied, refused, carried, subjectOf, planOf, stepped}
+use Rattle.group.proofs.Laws.Stepping.{Taken, plan-taken, subject-named, subject-receives, subject-in}
 
 -- ---- an accepted event
 
@@ -91,7 +47,7 @@ last-one n dead a l f e = ext (minus (below n) dead) (only a) (λ k. same-test (
     him : (k : ℕ) → has (only a) k ≡ true → has (minus (below n) dead) k ≡ true
     him k t = let q : k ≡ a = eqb-true k a (sym (has-only a k) ∙ t) in subst (λ (x : ℕ). has (minus (below n) dead) x ≡ true) (sym q) (minus-i (below n) dead a (has-below-lt n a l) f)
 
-module _ (anc : ℕ → ℕ) (s : State) (f : Facts anc s) (kind a b : ℕ) (p : Plan) (e : p ≡ planOf anc s kind a b) (z : p .answer ≡ 0) where
+module _ (anc : ℕ → ℕ) (s : State) (f : InOrderFacts anc s) (kind a b : ℕ) (p : Plan) (e : p ≡ planOf anc s kind a b) (z : p .answer ≡ 0) where
   own : subjectOf s kind a < s .group .n
   own = subject-in anc s f kind a
 
@@ -104,55 +60,43 @@ module _ (anc : ℕ → ℕ) (s : State) (f : Facts anc s) (kind a b : ℕ) (p :
       let x = clean-rank _ _ _ _ _ _ _ _ (ok .clean) r in
       (subject-named s kind a q (x .0), x .0, x .1)
 
-  pub ranks-kind : (kind ≡ 1) ⊎ ((kind ≡ 3) ⊎ (kind ≡ 4)) → (namesRank kind ≡ true) × (namesPlace kind ≡ false)
-  unfolding namesRank namesPlace
-  ranks-kind (inl k) = (rw k, rw k)
-  ranks-kind (inr (inl k)) = (rw k, rw k)
-  ranks-kind (inr (inr k)) = (rw k, rw k)
-
-  pub places-kind : kind ≡ 2 → namesPlace kind ≡ true
-  unfolding namesPlace
-  places-kind k = rw k
-
   -- a place that is named holds a message
   pub listed-there : namesPlace kind ≡ true → a < s .group .count
   listed-there q = clean-place _ _ _ _ _ _ _ _ (ok .clean) q
 
   pub outcome : Outcome anc (s .group .n) (s .group .dead) (subjectOf s kind a) (p .acted)
   outcome = subst (Outcome anc (s .group .n) (s .group .dead) (subjectOf s kind a)) (sym (ok .acted-is))
-      (acting-outcome anc (s .group .n) (s .group .dead) (subjectOf s kind a) (f .size-high) own kind b (placeAt s a) (rankAt s (subjectOf s kind a)) (rowAt s (subjectOf s kind a)) (f .seated (subjectOf s kind a) own)
-      (λ k. ok .clean .is-outside) delivery notice)
+      (acting-outcome anc (s .group .n) (s .group .dead) (subjectOf s kind a) (f .size-high) own kind b (placeAt s a) (rankAt s (subjectOf s kind a)) (rowAt s (subjectOf s kind a)) (f .member (subjectOf s kind a) own)
+      (clean-outside _ _ _ _ _ _ _ _ (ok .clean)) delivery notice)
     where
-      delivery : kind ≡ 2 → Lawful (s .group .n) (s .group .dead) (placeAt s a) × (placeAt s a .to ≡ subjectOf s kind a)
-      delivery k = (f .lawful a (listed-there (places-kind k)), sym (subject-receives s kind a (places-kind k)))
+      delivery : kind ≡ 2 → MessageInOrder (s .group .n) (s .group .dead) (placeAt s a) × (placeAt s a .to ≡ subjectOf s kind a)
+      delivery k = (f .message a (listed-there (names-a-place kind k)), sym (subject-receives s kind a (names-a-place kind k)))
 
-      notice : kind ≡ 4 → (b < s .group .n) × (Rattle.group.specs.Refusing.isLiving (s .group .dead) kind b ≡ false) × (has (s .group .dead) (subjectOf s kind a) ≡ false)
+      notice : kind ≡ 4 → (b < s .group .n) × (has (s .group .dead) b ≡ true) × (has (s .group .dead) (subjectOf s kind a) ≡ false)
       notice k =
-          let t = ranks-kind (inr (inr k)) in
+          let t = names-a-rank kind (inr (inr k)) in
           let x = named (t .0) (t .1) in
-          (clean-notice _ _ _ _ _ _ _ _ (ok .clean) k, ok .clean .told-dead, subst (λ (y : ℕ). has (s .group .dead) y ≡ false) (sym (x .0)) (x .2))
+          (clean-notice _ _ _ _ _ _ _ _ (ok .clean) k, clean-told _ _ _ _ _ _ _ _ (ok .clean) k, subst (λ (y : ℕ). has (s .group .dead) y ≡ false) (sym (x .0)) (x .2))
 
   -- ---- the list
 
   pub list-long : length (flying s) ≡ s .group .count
-  unfolding flying
   list-long = length-take-le (s .group .count) (s .group .net) (let x = f .count-le in let y = f .shaped .net-long in omega arith)
 
-  list-lawful : AllLawful (s .group .n) (s .group .dead) (flying s)
-  unfolding flying placeAt
-  list-lawful d i h =
+  list-in-order : AllInOrder (s .group .n) (s .group .dead) (flying s)
+  list-in-order d i h =
       let b : i < s .group .count = subst (λ (x : ℕ). i < x) list-long h in
-      subst (Lawful (s .group .n) (s .group .dead)) (sym (getD-take (s .group .count) (s .group .net) i d b ∙ any-default (s .group .net) i d zeroMessage (let x = f .count-le in let y = f .shaped .net-long in omega arith))) (f .lawful i b)
+      subst (MessageInOrder (s .group .n) (s .group .dead)) (sym (getD-take (s .group .count) (s .group .net) i d b ∙ any-default (s .group .net) i d zeroMessage (let x = f .count-le in let y = f .shaped .net-long in omega arith))) (f .message i b)
 
-  rest-lawful : (t : Bool) → AllLawful (s .group .n) (s .group .dead) (cond t (without a (flying s)) (flying s))
-  rest-lawful true = all-without (s .group .n) (s .group .dead) a (flying s) list-lawful
-  rest-lawful false = list-lawful
+  rest-in-order : (t : Bool) → AllInOrder (s .group .n) (s .group .dead) (cond t (without a (flying s)) (flying s))
+  rest-in-order true = all-without (s .group .n) (s .group .dead) a (flying s) list-in-order
+  rest-in-order false = list-in-order
 
-  posted-lawful : AllLawful (s .group .n) (s .group .dead) (posted (flying s) a (subjectOf s kind a) p)
+  posted-in-order : AllInOrder (s .group .n) (s .group .dead) (posted (flying s) a (subjectOf s kind a) p)
   unfolding posted
-  posted-lawful =
+  posted-in-order =
       all-append (s .group .n) (s .group .dead) (cond (p .leaves) (without a (flying s)) (flying s) ++ letters (subjectOf s kind a) (p .acted .first)) (letters (subjectOf s kind a) (p .acted .second))
-      (all-append (s .group .n) (s .group .dead) (cond (p .leaves) (without a (flying s)) (flying s)) (letters (subjectOf s kind a) (p .acted .first)) (rest-lawful (p .leaves))
+      (all-append (s .group .n) (s .group .dead) (cond (p .leaves) (without a (flying s)) (flying s)) (letters (subjectOf s kind a) (p .acted .first)) (rest-in-order (p .leaves))
       (all-letters (s .group .n) (s .group .dead) (subjectOf s kind a) (p .acted .rank .marks) (p .acted .first) own′ (outcome .first-posted) (outcome .seat .marks-dead)))
       (all-letters (s .group .n) (s .group .dead) (subjectOf s kind a) (p .acted .rank .marks) (p .acted .second) own′ (outcome .second-posted) (outcome .seat .marks-dead))
     where
@@ -160,13 +104,12 @@ module _ (anc : ℕ → ℕ) (s : State) (f : Facts anc s) (kind a b : ℕ) (p :
       own′ = subject-in anc s f kind a
 
   rest-long : (t : Bool) → (t ≡ true → a < s .group .count) → length (cond t (without a (flying s)) (flying s)) ≡ s .group .count - cond t 1 0
-  unfolding flying
   rest-long true h = length-without (s .group .net) (s .group .count) a (f .shaped .net-long) (f .count-le) (h refl)
   rest-long false h = list-long ∙ (let q : s .group .count ≡ s .group .count - 0 = omega arith in q)
 
   -- sent is what joined the list: its length afterwards is what was left and what was sent
   pub posted-long : length (posted (flying s) a (subjectOf s kind a) p) ≡ s .group .count - cond (p .leaves) 1 0 + size (p .acted .first) + size (p .acted .second)
-  unfolding posted size
+  unfolding posted
   posted-long =
       length-append (cond (p .leaves) (without a (flying s)) (flying s) ++ letters (subjectOf s kind a) (p .acted .first)) (letters (subjectOf s kind a) (p .acted .second))
       ∙ ap₂ (λ (x y : ℕ). x + y) (length-append (cond (p .leaves) (without a (flying s)) (flying s)) (letters (subjectOf s kind a) (p .acted .first)) ∙ ap₂ (λ (x y : ℕ). x + y) (rest-long (p .leaves) (λ t. listed-there (sym (ok .leaves-is) ∙ t))) (length-letters (subjectOf s kind a) (p .acted .first))) (length-letters (subjectOf s kind a) (p .acted .second))
@@ -204,16 +147,14 @@ module _ (anc : ℕ → ℕ) (s : State) (f : Facts anc s) (kind a b : ℕ) (p :
 
   -- somebody lives: only a crash adds to the dead, and not of the last
   still-lives : minus (below (s .group .n)) dead′ ≡ 0 → ⊥
-  unfolding dead′ isLast
+  unfolding dead′
   still-lives = go (p .dies) refl
     where
       crash : kind ≡ 3 → minus (below (s .group .n)) (add (s .group .dead) (subjectOf s kind a)) ≡ 0 → ⊥
       crash k q =
-          let t = ranks-kind (inr (inl k)) in
+          let t = names-a-rank kind (inr (inl k)) in
           let x = named (t .0) (t .1) in
-          clash (eqb kind 3 && eqb (minus (below (s .group .n)) (s .group .dead)) (only a))
-          (and-i (eqb kind 3) (eqb (minus (below (s .group .n)) (s .group .dead)) (only a)) (eq-eqb kind 3 k) (eq-eqb (minus (below (s .group .n)) (s .group .dead)) (only a) (last-one (s .group .n) (s .group .dead) a (x .1) (x .2) (subst (λ (y : ℕ). minus (below (s .group .n)) (add (s .group .dead) y) ≡ 0) (x .0) q))))
-          (ok .clean .others-live)
+          clean-others _ _ _ _ _ _ _ _ (ok .clean) k (last-one (s .group .n) (s .group .dead) a (x .1) (x .2) (subst (λ (y : ℕ). minus (below (s .group .n)) (add (s .group .dead) y) ≡ 0) (x .0) q))
 
       go : (t : Bool) → p .dies ≡ t → minus (below (s .group .n)) (cond t (add (s .group .dead) (subjectOf s kind a)) (s .group .dead)) ≡ 0 → ⊥
       go true d q = crash (eqb-true kind 3 (sym (ok .dies-is) ∙ d)) q
@@ -221,11 +162,11 @@ module _ (anc : ℕ → ℕ) (s : State) (f : Facts anc s) (kind a b : ℕ) (p :
 
   -- ---- the state
 
-  seat-more : (i : ℕ) (r : Rank) (row : List ℕ) → Seated anc (s .group .n) (s .group .dead) i r row → Seated anc (s .group .n) dead′ i r row
-  seat-more i r row x = record { ordered = x .ordered; table = x .table; marks-dead = λ k h. dead-more k (x .marks-dead k h) }
+  member-more : (i : ℕ) (r : Rank) (row : List ℕ) → MemberInOrder anc (s .group .n) (s .group .dead) i r row → MemberInOrder anc (s .group .n) dead′ i r row
+  member-more i r row x = record { in-order = x .in-order; table = x .table; marks-dead = λ k h. dead-more k (x .marks-dead k h) }
 
-  pub applied-facts : Facts anc (applied s a (subjectOf s kind a) p)
-  unfolding applied placed rankAt rowAt placeAt dead′
+  pub applied-facts : InOrderFacts anc (applied s a (subjectOf s kind a) p)
+  unfolding applied dead′
   applied-facts = record {
     shaped = record { ranks-long = length-set (s .group .ranks) (subjectOf s kind a) (p .acted .rank) ∙ f .shaped .ranks-long; rows-long = length-set (s .tables) (subjectOf s kind a) (p .acted .row) ∙ f .shaped .rows-long; net-long = padded-long list posted-fits };
     size-low = f .size-low;
@@ -233,9 +174,9 @@ module _ (anc : ℕ → ℕ) (s : State) (f : Facts anc s) (kind a b : ℕ) (p :
     lives = still-lives;
     dead-in = dead-within;
     count-le = posted-fits;
-    seated = λ i l. seat i l (eq-or-ne i me′);
+    member = λ i l. seat i l (eq-or-ne i me′);
     stranger = λ i l b. (getD-set-other (s .group .ranks) me′ i (p .acted .rank) zeroRank (λ q. omega (arith, own′)) ∙ f .stranger i l b .0, getD-set-other (s .tables) me′ i (p .acted .row) [] (λ q. omega (arith, own′)) ∙ f .stranger i l b .1);
-    lawful = λ i l. subst (Lawful (s .group .n) dead′) (sym (padded-in list i l)) (lawful-more (s .group .n) (s .group .dead) dead′ (getD list i zeroMessage) dead-more (posted-lawful zeroMessage i l));
+    message = λ i l. subst (MessageInOrder (s .group .n) dead′) (sym (padded-in list i l)) (message-more (s .group .n) (s .group .dead) dead′ (getD list i zeroMessage) dead-more (posted-in-order zeroMessage i l));
     vacant = λ i l b. padded-past list i l;
   }
     where
@@ -248,13 +189,13 @@ module _ (anc : ℕ → ℕ) (s : State) (f : Facts anc s) (kind a b : ℕ) (p :
       list : List Message
       list = posted (flying s) a (subjectOf s kind a) p
 
-      seat : (i : ℕ) → i < s .group .n → (i ≡ subjectOf s kind a) ⊎ (i ≡ subjectOf s kind a → ⊥) → Seated anc (s .group .n) dead′ i (getD (set (s .group .ranks) (subjectOf s kind a) (p .acted .rank)) i zeroRank) (getD (set (s .tables) (subjectOf s kind a) (p .acted .row)) i [])
+      seat : (i : ℕ) → i < s .group .n → (i ≡ subjectOf s kind a) ⊎ (i ≡ subjectOf s kind a → ⊥) → MemberInOrder anc (s .group .n) dead′ i (getD (set (s .group .ranks) (subjectOf s kind a) (p .acted .rank)) i zeroRank) (getD (set (s .tables) (subjectOf s kind a) (p .acted .row)) i [])
       seat i l (inl q) =
           rw (q, getD-set-same (s .group .ranks) (subjectOf s kind a) (p .acted .rank) zeroRank (let x = f .shaped .ranks-long in let y = f .size-high in omega (arith, own′)), getD-set-same (s .tables) (subjectOf s kind a) (p .acted .row) [] (let x = f .shaped .rows-long in let y = f .size-high in omega (arith, own′)))
-          (seat-more (subjectOf s kind a) (p .acted .rank) (p .acted .row) (outcome .seat))
+          (member-more (subjectOf s kind a) (p .acted .rank) (p .acted .row) (outcome .seat))
       seat i l (inr q) =
           rw (getD-set-other (s .group .ranks) (subjectOf s kind a) i (p .acted .rank) zeroRank q, getD-set-other (s .tables) (subjectOf s kind a) i (p .acted .row) [] q)
-          (seat-more i (rankAt s i) (rowAt s i) (f .seated i l))
+          (member-more i (rankAt s i) (rowAt s i) (f .member i l))
 
 -- ---- the theorem
 
@@ -269,13 +210,13 @@ stepped-cases anc s kind a b P same taken = go (eqb (planOf anc s kind a b .answ
 -- The step changes one rank's record and row, the dead set and the list, and nothing else.
 pub step-changes-one : (anc : ℕ → ℕ) (s : State) (kind a b j : ℕ) → (j ≡ subjectOf s kind a → ⊥)
     → (stepped anc s kind a b .state .group .n ≡ s .group .n) × (rankAt (stepped anc s kind a b .state) j ≡ rankAt s j) × (rowAt (stepped anc s kind a b .state) j ≡ rowAt s j)
-unfolding applied rankAt rowAt
+unfolding applied
 step-changes-one anc s kind a b j h =
     stepped-cases anc s kind a b (λ t. (t .group .n ≡ s .group .n) × (rankAt t j ≡ rankAt s j) × (rowAt t j ≡ rowAt s j)) (refl, refl, refl)
     (λ p e z. (refl, getD-set-other (s .group .ranks) (subjectOf s kind a) j (p .acted .rank) zeroRank h, getD-set-other (s .tables) (subjectOf s kind a) j (p .acted .row) [] h))
 
 -- An event on a state in order gives a state in order.
-pub step-keeps-order : (anc : ℕ → ℕ) (s : State) (kind a b : ℕ) → Orderly anc s → Orderly anc (stepped anc s kind a b .state)
+pub step-keeps-order : (anc : ℕ → ℕ) (s : State) (kind a b : ℕ) → InOrder anc s → InOrder anc (stepped anc s kind a b .state)
 step-keeps-order anc s kind a b o =
-    let f = orderly-facts anc s o in
-    stepped-cases anc s kind a b (Orderly anc) o (λ p e z. facts-orderly anc (applied s a (subjectOf s kind a) p) (applied-facts anc s f kind a b p e z))
+    let f = in-order-facts anc s o in
+    stepped-cases anc s kind a b (InOrder anc) o (λ p e z. facts-in-order anc (applied s a (subjectOf s kind a) p) (applied-facts anc s f kind a b p e z))

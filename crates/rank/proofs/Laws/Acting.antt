@@ -10,14 +10,14 @@ use lib.ListN.{getD}
 use borrow.Author.Tests.{eq-eqb, ne-eqb}
 use Rattle.sets.specs.Sets.{none, has, only, add, union, meet, minus}
 use Rattle.sets.proofs.Laws.Bools.{and-not-l, and-not-r}
-use Rattle.tree.specs.Tree.{parent, children, fresh, moved}
+use Rattle.sets.proofs.Laws.Members.{minus-minus, minus-none}
+use Rattle.tree.specs.Tree.{parent, children, moved}
 use Rattle.tree.specs.Calls.{mended, mendedBelow}
 use Rattle.tree.specs.declared.Mended.{Mended}
 use Rattle.tree.proofs.Laws.Rows.{fresh-at}
 use Rattle.tree.proofs.Laws.Mending.{mended-marks, mended-moved, mended-fresh, below-marks, below-moved, below-fresh}
 use Rattle.tree.proofs.Laws.Parents.{parent-lt}
 use Rattle.tree.proofs.Laws.Children.{child-test}
-use Rattle.sets.proofs.Laws.Members.{minus-minus, minus-none}
 use Rattle.rank.specs.declared.Rank.{Rank}
 use Rattle.rank.specs.declared.Send.{Send}
 use Rattle.rank.specs.declared.Said.{Said}
@@ -26,24 +26,24 @@ use Rattle.rank.specs.Words.{gathering, waiting, decided, combine}
 use Rattle.rank.specs.Records.{becoming, combining, concluding, owing, parentOf, childrenOf, awaiting, hearing, viewing}
 use Rattle.rank.specs.Sends.{silent, reports, tells, asks}
 use Rattle.rank.specs.Rules.{inPhase, saying, deciding, settled, done, settling, entering, noting, raised, takingUp, lowered, takingDown, asked, takingAsk, renewing, regathering, orphaned, inheriting, bereaved, noticing}
-use Rattle.rank.specs.Order.{Kept}
-use Rattle.rank.proofs.Laws.Knowing.{asked-marks, bereaved-marks}
+use Rattle.rank.specs.Between.{FreshRow}
+use Rattle.rank.proofs.Laws.Knowing.{settled-marks, asked-marks, bereaved-marks}
 
 module _ (anc : ℕ → ℕ) where
   -- ---- the row is the table of the rank's own view
 
-  pub kept-parent : (n me : ℕ) (r : Rank) (row : List ℕ) → Kept anc n me r row → getD row me 0 ≡ parentOf anc me r
+  pub row-parent : (n me : ℕ) (r : Rank) (row : List ℕ) → FreshRow anc n me r row → getD row me 0 ≡ parentOf anc me r
   unfolding parentOf
-  kept-parent n me r row k = ap (λ (t : List ℕ). getD t me 0) (k .table) ∙ fresh-at anc n (r .marks) me (k .size) (k .own)
+  row-parent n me r row k = ap (λ (t : List ℕ). getD t me 0) (k .table) ∙ fresh-at anc n (r .marks) me (k .size) (k .own)
 
-  pub kept-child : (n me : ℕ) (r : Rank) (row : List ℕ) (q : ℕ) → Kept anc n me r row → q < n → getD row q 0 ≡ parent anc (r .marks) q
-  kept-child n me r row q k l = ap (λ (t : List ℕ). getD t q 0) (k .table) ∙ fresh-at anc n (r .marks) q (k .size) l
+  pub row-child : (n me : ℕ) (r : Rank) (row : List ℕ) (q : ℕ) → FreshRow anc n me r row → q < n → getD row q 0 ≡ parent anc (r .marks) q
+  row-child n me r row q k l = ap (λ (t : List ℕ). getD t q 0) (k .table) ∙ fresh-at anc n (r .marks) q (k .size) l
 
   -- a parent that is not none is a rank
-  pub kept-parent-lt : (n me : ℕ) (r : Rank) (row : List ℕ) → Kept anc n me r row → (getD row me 0 ≡ none → ⊥) → getD row me 0 < 64
+  pub row-parent-lt : (n me : ℕ) (r : Rank) (row : List ℕ) → FreshRow anc n me r row → (getD row me 0 ≡ none → ⊥) → getD row me 0 < 64
   unfolding parentOf
-  kept-parent-lt n me r row k h =
-      let e : getD row me 0 ≡ parent anc (r .marks) me = kept-parent n me r row k in
+  row-parent-lt n me r row k h =
+      let e : getD row me 0 ≡ parent anc (r .marks) me = row-parent n me r row k in
       let l : parent anc (r .marks) me < me = parent-lt anc (r .marks) me (λ x. h (e ∙ x)) in
       omega (arith, k .size, k .own)
 
@@ -69,39 +69,30 @@ module _ (anc : ℕ → ℕ) where
   unfolding settled inPhase
   settled-child n me r p a e = rw (eq-eqb (r .phase) gathering p, eq-eqb (r .awaited) 0 a, ne-eqb (parentOf anc me r) none e)
 
-  settling-by : (n me : ℕ) (r : Rank) (row : List ℕ) (first : Send) (m : ℕ) (t : Said) → settled anc n me r ≡ t → row ≡ fresh anc n (t .rank .marks)
+  settle-still : (n me : ℕ) (r : Rank) (s : Send) → settled anc n me r ≡ saying r silent → s ≡ silent → _≡_ {A = Said} (record { rank = r; send = s }) (settled anc n me r)
+  unfolding saying
+  settle-still n me r s e f = rw (e, f)
+
+  pub settle-other : (n me : ℕ) (r : Rank) (s : Send) → (r .phase ≡ gathering → ⊥) → s ≡ silent → _≡_ {A = Said} (record { rank = r; send = s }) (settled anc n me r)
+  settle-other n me r s h f = settle-still n me r s (settled-other n me r h) f
+
+  pub settle-awaits : (n me : ℕ) (r : Rank) (s : Send) → (r .awaited ≡ 0 → ⊥) → s ≡ silent → _≡_ {A = Said} (record { rank = r; send = s }) (settled anc n me r)
+  settle-awaits n me r s h f = settle-still n me r s (settled-awaits n me r h) f
+
+  pub settle-root : (n me : ℕ) (r : Rank) (row : List ℕ) (d : Said) → FreshRow anc n me r row → r .phase ≡ gathering → r .awaited ≡ 0 → getD row me 0 ≡ none → d ≡ deciding anc n me (r .word) r → d ≡ settled anc n me r
+  settle-root n me r row d k p a z e = e ∙ sym (settled-root n me r p a (sym (row-parent n me r row k) ∙ z))
+
+  pub settle-child : (n me : ℕ) (r : Rank) (row : List ℕ) (s : Send) → FreshRow anc n me r row → r .phase ≡ gathering → r .awaited ≡ 0 → (getD row me 0 ≡ none → ⊥) → s ≡ reports r (getD row me 0)
+      → _≡_ {A = Said} (record { rank = becoming waiting r; send = s }) (settled anc n me r)
+  unfolding saying
+  settle-child n me r row s k p a z e =
+      let q : getD row me 0 ≡ parentOf anc me r = row-parent n me r row k in
+      rw (e, q) (sym (settled-child n me r p a (λ x. z (q ∙ x))))
+
+  pub settle-returns : (n me : ℕ) (r : Rank) (row : List ℕ) (first : Send) (m : ℕ) (t : Said) → FreshRow anc n me r row → t ≡ settled anc n me r
       → _≡_ {A = Acted} (record { rank = t .rank; row = row; first = first; second = t .send; moved = m }) (settling anc n me (saying r first) m)
   unfolding settling saying
-  settling-by n me r row first m t e f = rw (e, f)
-
-  settle-still : (n me : ℕ) (r : Rank) (row : List ℕ) (first s : Send) (m : ℕ) → Kept anc n me r row → settled anc n me r ≡ saying r silent → s ≡ silent
-      → _≡_ {A = Acted} (record { rank = r; row = row; first = first; second = s; moved = m }) (settling anc n me (saying r first) m)
-  unfolding saying
-  settle-still n me r row first s m k e f = rw f (settling-by n me r row first m (saying r silent) e (k .table))
-
-  pub settle-other : (n me : ℕ) (r : Rank) (row : List ℕ) (first s : Send) (m : ℕ) → Kept anc n me r row → (r .phase ≡ gathering → ⊥) → s ≡ silent
-      → _≡_ {A = Acted} (record { rank = r; row = row; first = first; second = s; moved = m }) (settling anc n me (saying r first) m)
-  settle-other n me r row first s m k h f = settle-still n me r row first s m k (settled-other n me r h) f
-
-  pub settle-awaits : (n me : ℕ) (r : Rank) (row : List ℕ) (first s : Send) (m : ℕ) → Kept anc n me r row → (r .awaited ≡ 0 → ⊥) → s ≡ silent
-      → _≡_ {A = Acted} (record { rank = r; row = row; first = first; second = s; moved = m }) (settling anc n me (saying r first) m)
-  settle-awaits n me r row first s m k h f = settle-still n me r row first s m k (settled-awaits n me r h) f
-
-  pub settle-root : (n me : ℕ) (r : Rank) (row : List ℕ) (first : Send) (m : ℕ) (d : Said) → Kept anc n me r row → r .phase ≡ gathering → r .awaited ≡ 0 → getD row me 0 ≡ none
-      → d ≡ deciding anc n me (r .word) r
-      → _≡_ {A = Acted} (record { rank = d .rank; row = row; first = first; second = d .send; moved = m }) (settling anc n me (saying r first) m)
-  unfolding deciding saying concluding
-  settle-root n me r row first m d k p a z e =
-      settling-by n me r row first m d (settled-root n me r p a (sym (kept-parent n me r row k) ∙ z) ∙ sym e)
-      (k .table ∙ ap (λ (x : Said). fresh anc n (x .rank .marks)) (sym e))
-
-  pub settle-child : (n me : ℕ) (r : Rank) (row : List ℕ) (first s : Send) (m : ℕ) → Kept anc n me r row → r .phase ≡ gathering → r .awaited ≡ 0 → (getD row me 0 ≡ none → ⊥)
-      → s ≡ reports r (getD row me 0)
-      → _≡_ {A = Acted} (record { rank = becoming waiting r; row = row; first = first; second = s; moved = m }) (settling anc n me (saying r first) m)
-  unfolding saying becoming
-  settle-child n me r row first s m k p a z e =
-      let q : getD row me 0 ≡ parentOf anc me r = kept-parent n me r row k in
-      rw (e, q) (settling-by n me r row first m (saying (becoming waiting r) (reports r (parentOf anc me r))) (settled-child n me r p a (λ x. z (q ∙ x))) (k .table))
+  settle-returns n me r row first m t k e = rw (e, k .table, settled-marks anc n me r)
 
   -- ---- the rules
 
@@ -135,12 +126,12 @@ module _ (anc : ℕ → ℕ) where
   unfolding deciding saying concluding childrenOf
   decide-returns n me r row x c u t s ec eu et es = rw (es, et, eu, ec)
 
-  pub down-decides : (n me : ℕ) (r : Rank) (row : List ℕ) (x : ℕ) (d : Said) (s : Send) → Kept anc n me r row → eqb (r .phase) gathering || eqb (r .phase) waiting ≡ true → d ≡ deciding anc n me x r → s ≡ silent
+  pub down-decides : (n me : ℕ) (r : Rank) (row : List ℕ) (x : ℕ) (d : Said) (s : Send) → FreshRow anc n me r row → eqb (r .phase) gathering || eqb (r .phase) waiting ≡ true → d ≡ deciding anc n me x r → s ≡ silent
       → _≡_ {A = Acted} (record { rank = d .rank; row = row; first = d .send; second = s; moved = 0 }) (takingDown anc n me x r)
   unfolding takingDown lowered inPhase done deciding saying concluding
   down-decides n me r row x d s k t e f = rw (t, e, f, k .table)
 
-  pub down-nothing : (n me : ℕ) (r : Rank) (row : List ℕ) (x : ℕ) (s s′ : Send) → Kept anc n me r row → eqb (r .phase) gathering || eqb (r .phase) waiting ≡ false → s ≡ silent → s′ ≡ silent
+  pub down-nothing : (n me : ℕ) (r : Rank) (row : List ℕ) (x : ℕ) (s s′ : Send) → FreshRow anc n me r row → eqb (r .phase) gathering || eqb (r .phase) waiting ≡ false → s ≡ silent → s′ ≡ silent
       → _≡_ {A = Acted} (record { rank = r; row = row; first = s; second = s′; moved = 0 }) (takingDown anc n me x r)
   unfolding takingDown lowered inPhase done saying
   down-nothing n me r row x s s′ k t e f = rw (t, e, f, k .table)
@@ -156,22 +147,22 @@ module _ (anc : ℕ → ℕ) where
   unfolding viewing awaiting
   view-returns n me r m c w e f = rw (f, e)
 
-  pub kept-mended : (n me q : ℕ) (r : Rank) (row : List ℕ) (m : Mended) → Kept anc n me r row → m ≡ mended anc n (r .marks) q → Kept anc n me (viewing anc n me (m .marks) r) (m .table)
+  pub row-mended : (n me q : ℕ) (r : Rank) (row : List ℕ) (m : Mended) → FreshRow anc n me r row → m ≡ mended anc n (r .marks) q → FreshRow anc n me (viewing anc n me (m .marks) r) (m .table)
   unfolding viewing
-  kept-mended n me q r row m k e = record { size = k .size; own = k .own; table = mended-fresh anc n (r .marks) q m e }
+  row-mended n me q r row m k e = record { size = k .size; own = k .own; table = mended-fresh anc n (r .marks) q m e }
 
-  pub kept-below : (n me q : ℕ) (r : Rank) (row : List ℕ) (m : Mended) → Kept anc n me r row → m ≡ mendedBelow anc n (r .marks) q → Kept anc n me (viewing anc n me (m .marks) r) (m .table)
+  pub row-below : (n me q : ℕ) (r : Rank) (row : List ℕ) (m : Mended) → FreshRow anc n me r row → m ≡ mendedBelow anc n (r .marks) q → FreshRow anc n me (viewing anc n me (m .marks) r) (m .table)
   unfolding viewing
-  kept-below n me q r row m k e = record { size = k .size; own = k .own; table = below-fresh anc n (r .marks) q m e }
+  row-below n me q r row m k e = record { size = k .size; own = k .own; table = below-fresh anc n (r .marks) q m e }
 
-  pub kept-seen : (n me q : ℕ) (r v : Rank) (row : List ℕ) (m : Mended) → Kept anc n me r row → m ≡ mended anc n (r .marks) q → v ≡ viewing anc n me (m .marks) r → Kept anc n me v (m .table)
-  kept-seen n me q r v row m k e f = rw f (kept-mended n me q r row m k e)
+  pub row-seen : (n me q : ℕ) (r v : Rank) (row : List ℕ) (m : Mended) → FreshRow anc n me r row → m ≡ mended anc n (r .marks) q → v ≡ viewing anc n me (m .marks) r → FreshRow anc n me v (m .table)
+  row-seen n me q r v row m k e f = rw f (row-mended n me q r row m k e)
 
-  pub kept-seen-below : (n me q : ℕ) (r v : Rank) (row : List ℕ) (m : Mended) → Kept anc n me r row → m ≡ mendedBelow anc n (r .marks) q → v ≡ viewing anc n me (m .marks) r → Kept anc n me v (m .table)
-  kept-seen-below n me q r v row m k e f = rw f (kept-below n me q r row m k e)
+  pub row-seen-below : (n me q : ℕ) (r v : Rank) (row : List ℕ) (m : Mended) → FreshRow anc n me r row → m ≡ mendedBelow anc n (r .marks) q → v ≡ viewing anc n me (m .marks) r → FreshRow anc n me v (m .table)
+  row-seen-below n me q r v row m k e f = rw f (row-below n me q r row m k e)
 
-  kept-said : (n me : ℕ) (r : Rank) (row : List ℕ) (s : Said) → Kept anc n me r row → s .rank .marks ≡ r .marks → Kept anc n me (s .rank) row
-  kept-said n me r row s k e = record { size = k .size; own = k .own; table = rw e (k .table) }
+  row-said : (n me : ℕ) (r : Rank) (row : List ℕ) (s : Said) → FreshRow anc n me r row → s .rank .marks ≡ r .marks → FreshRow anc n me (s .rank) row
+  row-said n me r row s k e = record { size = k .size; own = k .own; table = rw e (k .table) }
 
   -- ---- ASK
 
@@ -179,24 +170,24 @@ module _ (anc : ℕ → ℕ) where
   unfolding asked inPhase saying
   asked-decided n me q r o s p e f = rw (eq-eqb (r .phase) decided p, f, e)
 
-  pub asked-waiting : (n me q : ℕ) (r : Rank) (row : List ℕ) (o : ℕ) (s : Send) → Kept anc n me r row → (r .phase ≡ decided → ⊥) → o ≡ add (r .owed) q → eqb (r .phase) waiting && eqb (getD row me 0) q ≡ true
+  pub asked-waiting : (n me q : ℕ) (r : Rank) (row : List ℕ) (o : ℕ) (s : Send) → FreshRow anc n me r row → (r .phase ≡ decided → ⊥) → o ≡ add (r .owed) q → eqb (r .phase) waiting && eqb (getD row me 0) q ≡ true
       → s ≡ reports (record { phase = r .phase; marks = r .marks; heard = r .heard; awaited = r .awaited; owed = o; word = r .word; result = r .result }) q
       → _≡_ {A = Said} (record { rank = record { phase = r .phase; marks = r .marks; heard = r .heard; awaited = r .awaited; owed = o; word = r .word; result = r .result }; send = s }) (asked anc n me q r)
   unfolding asked inPhase saying owing reports
   asked-waiting n me q r row o s k p e t f =
-      let u : eqb (r .phase) waiting && eqb (parentOf anc me r) q ≡ true = ap (λ (x : ℕ). eqb (r .phase) waiting && eqb x q) (sym (kept-parent n me r row k)) ∙ t in
+      let u : eqb (r .phase) waiting && eqb (parentOf anc me r) q ≡ true = ap (λ (x : ℕ). eqb (r .phase) waiting && eqb x q) (sym (row-parent n me r row k)) ∙ t in
       rw (ne-eqb (r .phase) decided p, u, f, e)
 
-  pub asked-other : (n me q : ℕ) (r : Rank) (row : List ℕ) (o : ℕ) (s : Send) → Kept anc n me r row → (r .phase ≡ decided → ⊥) → o ≡ add (r .owed) q → eqb (r .phase) waiting && eqb (getD row me 0) q ≡ false
+  pub asked-other : (n me q : ℕ) (r : Rank) (row : List ℕ) (o : ℕ) (s : Send) → FreshRow anc n me r row → (r .phase ≡ decided → ⊥) → o ≡ add (r .owed) q → eqb (r .phase) waiting && eqb (getD row me 0) q ≡ false
       → s ≡ silent
       → _≡_ {A = Said} (record { rank = record { phase = r .phase; marks = r .marks; heard = r .heard; awaited = r .awaited; owed = o; word = r .word; result = r .result }; send = s }) (asked anc n me q r)
   unfolding asked inPhase saying owing
   asked-other n me q r row o s k p e t f =
-      let u : eqb (r .phase) waiting && eqb (parentOf anc me r) q ≡ false = ap (λ (x : ℕ). eqb (r .phase) waiting && eqb x q) (sym (kept-parent n me r row k)) ∙ t in
+      let u : eqb (r .phase) waiting && eqb (parentOf anc me r) q ≡ false = ap (λ (x : ℕ). eqb (r .phase) waiting && eqb x q) (sym (row-parent n me r row k)) ∙ t in
       rw (ne-eqb (r .phase) decided p, u, f, e)
 
-  pub kept-asked : (n me q : ℕ) (r : Rank) (row : List ℕ) (s : Said) → Kept anc n me r row → s ≡ asked anc n me q r → Kept anc n me (s .rank) row
-  kept-asked n me q r row s k e = kept-said n me r row s k (ap (λ (x : Said). x .rank .marks) e ∙ asked-marks anc n me q r)
+  pub row-asked : (n me q : ℕ) (r : Rank) (row : List ℕ) (s : Said) → FreshRow anc n me r row → s ≡ asked anc n me q r → FreshRow anc n me (s .rank) row
+  row-asked n me q r row s k e = row-said n me r row s k (ap (λ (x : Said). x .rank .marks) e ∙ asked-marks anc n me q r)
 
   pub ask-returns : (n me q : ℕ) (r v : Rank) (m : Mended) (s : Said) (a : Acted) → m ≡ mendedBelow anc n (r .marks) q → v ≡ viewing anc n me (m .marks) r → s ≡ asked anc n me q v
       → a ≡ settling anc n me (saying (s .rank) (s .send)) (m .moved) → a ≡ takingAsk anc n me q r
@@ -205,51 +196,54 @@ module _ (anc : ℕ → ℕ) where
 
   -- ---- notice
 
-  pub orphan-reports : (n me : ℕ) (r : Rank) (row : List ℕ) (s : Send) → Kept anc n me r row → (getD row me 0 ≡ none → ⊥) → s ≡ reports r (getD row me 0) → _≡_ {A = Said} (record { rank = r; send = s }) (orphaned anc n me r)
+  pub orphan-reports : (n me : ℕ) (r : Rank) (row : List ℕ) (s : Send) → FreshRow anc n me r row → (getD row me 0 ≡ none → ⊥) → s ≡ reports r (getD row me 0) → _≡_ {A = Said} (record { rank = r; send = s }) (orphaned anc n me r)
   unfolding orphaned regathering renewing saying
   orphan-reports n me r row s k h e =
-      let q : getD row me 0 ≡ parentOf anc me r = kept-parent n me r row k in
+      let q : getD row me 0 ≡ parentOf anc me r = row-parent n me r row k in
       rw (e, q, ne-eqb (parentOf anc me r) none (λ x. h (q ∙ x)))
 
-  pub orphan-gathers : (n me : ℕ) (r : Rank) (row : List ℕ) (c : ℕ) (s : Send) → Kept anc n me r row → getD row me 0 ≡ none → c ≡ children anc n (r .marks) me → s ≡ asks c
+  pub orphan-gathers : (n me : ℕ) (r : Rank) (row : List ℕ) (c : ℕ) (s : Send) → FreshRow anc n me r row → getD row me 0 ≡ none → c ≡ children anc n (r .marks) me → s ≡ asks c
       → _≡_ {A = Said} (record { rank = record { phase = gathering; marks = r .marks; heard = 0; awaited = c; owed = r .owed; word = r .word; result = r .result }; send = s }) (orphaned anc n me r)
   unfolding orphaned regathering renewing saying becoming hearing awaiting childrenOf
   orphan-gathers n me r row c s k h e f =
-      let z : parentOf anc me r ≡ none = sym (kept-parent n me r row k) ∙ h in
+      let z : parentOf anc me r ≡ none = sym (row-parent n me r row k) ∙ h in
       rw (eq-eqb (parentOf anc me r) none z, f, e, minus-none (children anc n (r .marks) me))
 
   -- the tests of a death, read off the row
-  was-parent : (n me q : ℕ) (r : Rank) (row : List ℕ) (b : Bool) → Kept anc n me r row → eqb (r .phase) waiting && eqb (getD row me 0) q ≡ b → inPhase waiting r && eqb (parentOf anc me r) q ≡ b
+  pub was-parent : (n me q : ℕ) (r : Rank) (row : List ℕ) → FreshRow anc n me r row → eqb (r .phase) waiting && eqb (getD row me 0) q ≡ inPhase waiting r && eqb (parentOf anc me r) q
   unfolding inPhase
-  was-parent n me q r row b k t = ap (λ (x : ℕ). eqb (r .phase) waiting && eqb x q) (sym (kept-parent n me r row k)) ∙ t
+  was-parent n me q r row k = ap (λ (x : ℕ). eqb (r .phase) waiting && eqb x q) (row-parent n me r row k)
 
-  was-child : (n me q : ℕ) (r : Rank) (row : List ℕ) (b : Bool) → Kept anc n me r row → q < n → has (r .marks) q ≡ false
-      → eqb (r .phase) gathering && eqb (getD row me 0) none && eqb (getD row q 0) me ≡ b → inPhase gathering r && eqb (parentOf anc me r) none && has (childrenOf anc n me r) q ≡ b
+  pub was-child : (n me q : ℕ) (r : Rank) (row : List ℕ) → FreshRow anc n me r row → q < n → has (r .marks) q ≡ false
+      → eqb (r .phase) gathering && eqb (getD row me 0) none && eqb (getD row q 0) me ≡ inPhase gathering r && eqb (parentOf anc me r) none && has (childrenOf anc n me r) q
   unfolding inPhase childrenOf
-  was-child n me q r row b k l f t =
-      ap (λ (x : ℕ). eqb (r .phase) gathering && eqb x none && has (children anc n (r .marks) me) q) (sym (kept-parent n me r row k))
-      ∙ ap (λ (x : Bool). eqb (r .phase) gathering && eqb (getD row me 0) none && x) (child-test anc n (r .marks) me q l f ∙ ap (λ (x : ℕ). eqb x me) (sym (kept-child n me r row q k l)))
-      ∙ t
+  was-child n me q r row k l f =
+      ap (λ (x : Bool). eqb (r .phase) gathering && eqb (getD row me 0) none && x) (ap (λ (x : ℕ). eqb x me) (row-child n me r row q k l) ∙ sym (child-test anc n (r .marks) me q l f))
+      ∙ ap (λ (x : ℕ). eqb (r .phase) gathering && eqb x none && has (children anc n (r .marks) me) q) (row-parent n me r row k)
 
-  pub bereave-orphan : (n me q : ℕ) (r v : Rank) (row : List ℕ) (s : Said) → Kept anc n me r row → eqb (r .phase) waiting && eqb (getD row me 0) q ≡ true → s ≡ orphaned anc n me v → s ≡ bereaved anc n me q r v
+  pub bereave-orphan : (n me q : ℕ) (r v : Rank) (b : Bool) (s : Said) → b ≡ inPhase waiting r && eqb (parentOf anc me r) q → b ≡ true → s ≡ orphaned anc n me v → s ≡ bereaved anc n me q r v
   unfolding bereaved
-  bereave-orphan n me q r v row s k t e = e ∙ rw (was-parent n me q r row true k t)
+  bereave-orphan n me q r v b s f t e = e ∙ rw (sym f ∙ t)
 
-  pub bereave-inherits : (n me q : ℕ) (r v : Rank) (row : List ℕ) (c d g : ℕ) (s : Send) → Kept anc n me r row → q < n → has (r .marks) q ≡ false → eqb (r .phase) waiting && eqb (getD row me 0) q ≡ false
-      → eqb (r .phase) gathering && eqb (getD row me 0) none && eqb (getD row q 0) me ≡ true
-      → c ≡ children anc n (v .marks) me → d ≡ children anc n (r .marks) q → g ≡ meet c d → s ≡ asks g → _≡_ {A = Said} (record { rank = v; send = s }) (bereaved anc n me q r v)
-  unfolding bereaved inheriting saying childrenOf
-  bereave-inherits n me q r v row c d g s k l f t u ec ed eg es = rw (was-parent n me q r row false k t, was-child n me q r row true k l f u, es, eg, ec, ed)
+  pub bereave-inherits : (n me q : ℕ) (r v : Rank) (b c : Bool) (s : Said) → b ≡ inPhase waiting r && eqb (parentOf anc me r) q → b ≡ false
+      → c ≡ inPhase gathering r && eqb (parentOf anc me r) none && has (childrenOf anc n me r) q → c ≡ true → s ≡ inheriting anc n me q r v → s ≡ bereaved anc n me q r v
+  unfolding bereaved
+  bereave-inherits n me q r v b c s f t g u e = e ∙ rw (sym f ∙ t, sym g ∙ u)
 
-  pub bereave-other : (n me q : ℕ) (r v : Rank) (row : List ℕ) (s : Send) → Kept anc n me r row → q < n → has (r .marks) q ≡ false → eqb (r .phase) waiting && eqb (getD row me 0) q ≡ false
-      → eqb (r .phase) gathering && eqb (getD row me 0) none && eqb (getD row q 0) me ≡ false → s ≡ silent → _≡_ {A = Said} (record { rank = v; send = s }) (bereaved anc n me q r v)
+  pub bereave-other : (n me q : ℕ) (r v : Rank) (b c : Bool) (s : Send) → b ≡ inPhase waiting r && eqb (parentOf anc me r) q → b ≡ false
+      → c ≡ inPhase gathering r && eqb (parentOf anc me r) none && has (childrenOf anc n me r) q → c ≡ false → s ≡ silent → _≡_ {A = Said} (record { rank = v; send = s }) (bereaved anc n me q r v)
   unfolding bereaved saying
-  bereave-other n me q r v row s k l f t u es = rw (was-parent n me q r row false k t, was-child n me q r row false k l f u, es)
+  bereave-other n me q r v b c s f t g u e = rw (sym f ∙ t, sym g ∙ u, e)
 
-  pub kept-bereaved : (n me q : ℕ) (r v : Rank) (row : List ℕ) (s : Said) → Kept anc n me v row → s ≡ bereaved anc n me q r v → Kept anc n me (s .rank) row
-  kept-bereaved n me q r v row s k e = kept-said n me v row s k (ap (λ (x : Said). x .rank .marks) e ∙ bereaved-marks anc n me q r v)
+  pub inherit-returns : (n me q : ℕ) (r v : Rank) (c d g : ℕ) (s : Send) → c ≡ children anc n (v .marks) me → d ≡ children anc n (r .marks) q → g ≡ meet c d → s ≡ asks g
+      → _≡_ {A = Said} (record { rank = v; send = s }) (inheriting anc n me q r v)
+  unfolding inheriting saying childrenOf
+  inherit-returns n me q r v c d g s ec ed eg es = rw (es, eg, ec, ed)
 
-  pub notice-again : (n me q : ℕ) (r : Rank) (row : List ℕ) (b : Bool) (s s′ : Send) → Kept anc n me r row → b ≡ has (r .marks) q → b ≡ true → s ≡ silent → s′ ≡ silent
+  pub row-bereaved : (n me q : ℕ) (r v : Rank) (row : List ℕ) (s : Said) → FreshRow anc n me v row → s ≡ bereaved anc n me q r v → FreshRow anc n me (s .rank) row
+  row-bereaved n me q r v row s k e = row-said n me v row s k (ap (λ (x : Said). x .rank .marks) e ∙ bereaved-marks anc n me q r v)
+
+  pub notice-again : (n me q : ℕ) (r : Rank) (row : List ℕ) (b : Bool) (s s′ : Send) → FreshRow anc n me r row → b ≡ has (r .marks) q → b ≡ true → s ≡ silent → s′ ≡ silent
       → _≡_ {A = Acted} (record { rank = r; row = row; first = s; second = s′; moved = 0 }) (noticing anc n me q r)
   unfolding noticing done saying
   notice-again n me q r row b s s′ k e t f g = rw (sym e ∙ t, f, g, k .table)

@@ -16,7 +16,7 @@ use Rattle.rank.specs.Sends.{silent, reports, tells}
 use Rattle.rank.specs.Rules.{inPhase, saying, deciding, settled, noting, raised, lowered, asked, renewing, regathering, orphaned, inheriting, bereaved}
 
 -- a rule by a test: what holds either way holds of it
-by-test : {A : Type 0} (P : A → Type 0) (b : Bool) (x y : A) → (b ≡ true → P x) → (b ≡ false → P y) → P (cond b x y)
+pub by-test : {A : Type 0} (P : A → Type 0) (b : Bool) (x y : A) → (b ≡ true → P x) → (b ≡ false → P y) → P (cond b x y)
 by-test P true x y f g = f refl
 by-test P false x y f g = g refl
 

@@ -1,9 +1,9 @@
 -- Each rule keeps a rank in order, given what document 01 says of the event. A rule's own part leaves the rank fair, and settle makes
 -- it ordered, in one place. Over any ancestor sets. Assumes nothing.
+use mathlib.Core.Logic.{⊎-elim}
 use mathlib.Core.Path.{_≡_, refl, sym, ap, subst, _∙_}
 use mathlib.Core.Bool.{Bool, true, false, cond, not}
 use mathlib.Core.List.{List}
-use mathlib.Core.Logic.{⊎-elim}
 use Prim.Native.Nat.{ℕ, _≤_, _<_}
 use native.Mathlib.Omega.{arith}
 use borrow.Author.Tests.{eqb-true, ne-eqb}
@@ -20,7 +20,8 @@ use Rattle.rank.specs.Words.{outside, gathering, waiting, decided, allBi
 use Rattle.rank.specs.Records.{becoming, combining, concluding, owing, parentOf, childrenOf, awaiting, freshRank, hearing, viewing}
 use Rattle.rank.specs.Sends.{silent, reports, tells, asks}
 use Rattle.rank.specs.Rules.{saying, deciding, settled, done, settling, entering, noting, raised, takingUp, lowered, takingDown, asked, takingAsk, renewing, regathering, inheriting, bereaved, noticing}
-use Rattle.rank.specs.Order.{Kept, Within, Fair, Ordered, Posted, Sound, Steady}
+use Rattle.rank.specs.Between.{FreshRow}
+use Rattle.rank.proofs.Facts.{Within, ToSettle, RankInOrder, Posted, ActedInOrder, Steady}
 use Rattle.rank.proofs.Laws.Cases.{settled-by, raised-by, lowered-by, asked-by, orphaned-by, bereaved-by}
 
 -- ---- sets within the group and without the own rank
@@ -100,87 +101,87 @@ module _ (anc : ℕ → ℕ) (n me : ℕ) (small : n ≤ 64) (own : me < n) wher
 
   -- ---- decide and settle
 
-  deciding-ordered : (x : ℕ) (r : Rank) → Fair anc n me r → Ordered anc n me (deciding anc n me x r .rank)
+  deciding-in-order : (x : ℕ) (r : Rank) → ToSettle anc n me r → RankInOrder anc n me (deciding anc n me x r .rank)
   unfolding deciding saying concluding parentOf
-  deciding-ordered x r f = record {
-    fair = record { marks-in = f .marks-in; heard-in = f .heard-in; owed-in = f .owed-in; awaits = f .awaits; waits = λ e. absurd (omega arith); unless = λ e. absurd (e refl); known = omega arith };
+  deciding-in-order x r f = record {
+    to-settle = record { marks-in = f .marks-in; heard-in = f .heard-in; owed-in = f .owed-in; awaits = f .awaits; waits = λ e. absurd (omega arith); unless = λ e. absurd (e refl); known = omega arith };
     gathers = λ e. absurd (omega arith);
   }
 
-  deciding-posted : (x : ℕ) (r : Rank) → Fair anc n me r → Posted n me (r .marks) (deciding anc n me x r .send)
+  deciding-posted : (x : ℕ) (r : Rank) → ToSettle anc n me r → Posted n me (r .marks) (deciding anc n me x r .send)
   unfolding deciding saying childrenOf
   deciding-posted x r f = tells-posted (r .marks) x (minus (union (children anc n (r .marks) me) (r .owed)) (r .marks)) (within-minus n me (union (children anc n (r .marks) me) (r .owed)) (r .marks) (within-union n me (children anc n (r .marks) me) (r .owed) (within-children (r .marks)) (f .owed-in)))
 
   -- a fair rank, settled
   abbrev Settles : Rank → Said → Type 0
-  Settles r s = Ordered anc n me (s .rank) × (s .rank .marks ≡ r .marks) × Posted n me (r .marks) (s .send)
+  Settles r s = RankInOrder anc n me (s .rank) × (s .rank .marks ≡ r .marks) × Posted n me (r .marks) (s .send)
 
-  settles : (r : Rank) → Fair anc n me r → Settles r (settled anc n me r)
+  settles : (r : Rank) → ToSettle anc n me r → Settles r (settled anc n me r)
   unfolding saying becoming parentOf deciding concluding
   settles r f =
       settled-by anc n me (Settles r) r
-      (λ h. (record { fair = f; gathers = h }, refl, silent-posted (r .marks)))
-      (λ p a e. (deciding-ordered (r .word) r f, refl, deciding-posted (r .word) r f))
+      (λ h. (record { to-settle = f; gathers = h }, refl, silent-posted (r .marks)))
+      (λ p a e. (deciding-in-order (r .word) r f, refl, deciding-posted (r .word) r f))
       (λ p a e. (
         record {
-          fair = record { marks-in = f .marks-in; heard-in = f .heard-in; owed-in = f .owed-in; awaits = f .awaits; waits = λ x. e; unless = λ x. f .unless (λ y. omega arith); known = omega arith };
+          to-settle = record { marks-in = f .marks-in; heard-in = f .heard-in; owed-in = f .owed-in; awaits = f .awaits; waits = λ x. e; unless = λ x. f .unless (λ y. omega arith); known = omega arith };
           gathers = λ x. absurd (omega arith);
         },
         refl,
         parent-posted r r e,
       ))
 
-  settling-sound : (s : Said) (m : ℕ) → Fair anc n me (s .rank) → Posted n me (s .rank .marks) (s .send) → Sound anc n me (s .rank .marks) (settling anc n me s m)
+  settling-in-order : (s : Said) (m : ℕ) → ToSettle anc n me (s .rank) → Posted n me (s .rank .marks) (s .send) → ActedInOrder anc n me (s .rank .marks) (settling anc n me s m)
   unfolding settling
-  settling-sound s m f p =
+  settling-in-order s m f p =
       let t : Settles (s .rank) (settled anc n me (s .rank)) = settles (s .rank) f in
-      record { ordered = t .0; marks-are = t .1; row-is = ap (fresh anc n) (t .1); first-posted = p; second-posted = t .2 }
+      record { in-order = t .0; marks-are = t .1; row-is = ap (fresh anc n) (t .1); first-posted = p; second-posted = t .2 }
 
-  done-sound : (s : Said) (m : ℕ) → Ordered anc n me (s .rank) → Posted n me (s .rank .marks) (s .send) → Sound anc n me (s .rank .marks) (done anc n me s m)
+  done-in-order : (s : Said) (m : ℕ) → RankInOrder anc n me (s .rank) → Posted n me (s .rank .marks) (s .send) → ActedInOrder anc n me (s .rank .marks) (done anc n me s m)
   unfolding done
-  done-sound s m f p = record { ordered = f; marks-are = refl; row-is = refl; first-posted = p; second-posted = silent-posted (s .rank .marks) }
+  done-in-order s m f p = record { in-order = f; marks-are = refl; row-is = refl; first-posted = p; second-posted = silent-posted (s .rank .marks) }
 
   -- ---- the rules
 
-  pub enter-sound : (w : ℕ) (r : Rank) → Ordered anc n me r → r .phase ≡ outside → Sound anc n me (r .marks) (entering anc n me w r)
+  pub enter-in-order : (w : ℕ) (r : Rank) → RankInOrder anc n me r → r .phase ≡ outside → ActedInOrder anc n me (r .marks) (entering anc n me w r)
   unfolding entering saying becoming combining
-  enter-sound w r o p =
-      settling-sound (saying (becoming gathering (combining w r)) silent) 0
-      (record { marks-in = o .fair .marks-in; heard-in = o .fair .heard-in; owed-in = o .fair .owed-in; awaits = o .fair .awaits; waits = λ e. absurd (omega arith); unless = λ e. o .fair .unless (λ x. omega arith); known = omega arith })
+  enter-in-order w r o p =
+      settling-in-order (saying (becoming gathering (combining w r)) silent) 0
+      (record { marks-in = o .to-settle .marks-in; heard-in = o .to-settle .heard-in; owed-in = o .to-settle .owed-in; awaits = o .to-settle .awaits; waits = λ e. absurd (omega arith); unless = λ e. o .to-settle .unless (λ x. omega arith); known = omega arith })
       (silent-posted (r .marks))
 
   -- a rule's own part: the rank is fair, has these marks, and may send this
   abbrev Leaves : ℕ → Said → Type 0
-  Leaves marks s = Fair anc n me (s .rank) × (s .rank .marks ≡ marks) × Posted n me marks (s .send)
+  Leaves marks s = ToSettle anc n me (s .rank) × (s .rank .marks ≡ marks) × Posted n me marks (s .send)
 
-  leaves-sound : (marks : ℕ) (s : Said) (m : ℕ) → Leaves marks s → Sound anc n me marks (settling anc n me s m)
-  leaves-sound marks s m l = subst (λ (x : ℕ). Sound anc n me x (settling anc n me s m)) (l .1) (settling-sound s m (l .0) (subst (λ (x : ℕ). Posted n me x (s .send)) (sym (l .1)) (l .2)))
+  leaves-in-order : (marks : ℕ) (s : Said) (m : ℕ) → Leaves marks s → ActedInOrder anc n me marks (settling anc n me s m)
+  leaves-in-order marks s m l = subst (λ (x : ℕ). ActedInOrder anc n me x (settling anc n me s m)) (l .1) (settling-in-order s m (l .0) (subst (λ (x : ℕ). Posted n me x (s .send)) (sym (l .1)) (l .2)))
 
-  pub up-sound : (q x : ℕ) (r : Rank) → Ordered anc n me r → q < n → (q ≡ me → ⊥) → Sound anc n me (r .marks) (takingUp anc n me q x r)
+  pub up-in-order : (q x : ℕ) (r : Rank) → RankInOrder anc n me r → q < n → (q ≡ me → ⊥) → ActedInOrder anc n me (r .marks) (takingUp anc n me q x r)
   unfolding takingUp noting saying owing combining hearing parentOf
-  up-sound q x r o l d =
-      leaves-sound (r .marks) (raised anc n me q x r) 0
+  up-in-order q x r o l d =
+      leaves-in-order (r .marks) (raised anc n me q x r) 0
       (raised-by anc n me (Leaves (r .marks)) q x r
-      (λ e. (o .fair, refl, tells-posted (r .marks) (r .result) (only q) (within-only n me q l d)))
+      (λ e. (o .to-settle, refl, tells-posted (r .marks) (r .result) (only q) (within-only n me q l d)))
       (λ e. (
-        record { marks-in = o .fair .marks-in; heard-in = within-add n me (r .heard) q (o .fair .heard-in) l d; owed-in = within-add n me (r .owed) q (o .fair .owed-in) l d; awaits = refl; waits = o .fair .waits; unless = o .fair .unless; known = o .fair .known },
+        record { marks-in = o .to-settle .marks-in; heard-in = within-add n me (r .heard) q (o .to-settle .heard-in) l d; owed-in = within-add n me (r .owed) q (o .to-settle .owed-in) l d; awaits = refl; waits = o .to-settle .waits; unless = o .to-settle .unless; known = o .to-settle .known },
         refl,
         silent-posted (r .marks),
       )))
 
-  pub down-sound : (x : ℕ) (r : Rank) → Ordered anc n me r → Sound anc n me (r .marks) (takingDown anc n me x r)
+  pub down-in-order : (x : ℕ) (r : Rank) → RankInOrder anc n me r → ActedInOrder anc n me (r .marks) (takingDown anc n me x r)
   unfolding takingDown saying deciding concluding
-  down-sound x r o =
-      let t : Settles r (lowered anc n me x r) = lowered-by anc n me (Settles r) x r (λ e. (deciding-ordered x r (o .fair), refl, deciding-posted x r (o .fair))) (λ e f. (o, refl, silent-posted (r .marks))) in
-      subst (λ (m : ℕ). Sound anc n me m (done anc n me (lowered anc n me x r) 0)) (t .1)
-      (done-sound (lowered anc n me x r) 0 (t .0) (subst (λ (m : ℕ). Posted n me m (lowered anc n me x r .send)) (sym (t .1)) (t .2)))
+  down-in-order x r o =
+      let t : Settles r (lowered anc n me x r) = lowered-by anc n me (Settles r) x r (λ e. (deciding-in-order x r (o .to-settle), refl, deciding-posted x r (o .to-settle))) (λ e f. (o, refl, silent-posted (r .marks))) in
+      subst (λ (m : ℕ). ActedInOrder anc n me m (done anc n me (lowered anc n me x r) 0)) (t .1)
+      (done-in-order (lowered anc n me x r) 0 (t .0) (subst (λ (m : ℕ). Posted n me m (lowered anc n me x r .send)) (sym (t .1)) (t .2)))
 
-  pub ask-sound : (q : ℕ) (r : Rank) → Ordered anc n me r → q < me → has (r .marks) q ≡ false → Sound anc n me (union (r .marks) (below q)) (takingAsk anc n me q r)
+  pub ask-in-order : (q : ℕ) (r : Rank) → RankInOrder anc n me r → q < me → has (r .marks) q ≡ false → ActedInOrder anc n me (union (r .marks) (below q)) (takingAsk anc n me q r)
   unfolding takingAsk saying owing viewing parentOf
-  ask-sound q r o l free =
-      leaves-sound after (asked anc n me q v) (movedBelow anc n (r .marks) q)
+  ask-in-order q r o l free =
+      leaves-in-order after (asked anc n me q v) (movedBelow anc n (r .marks) q)
       (asked-by anc n me (Leaves after) q v
-      (λ e. (fair, refl, tells-posted after (r .result) (only q) (within-only n me q (omega arith) (λ x. omega arith))))
+      (λ e. (to-settle, refl, tells-posted after (r .result) (only q) (within-only n me q (omega arith) (λ x. omega arith))))
       (λ e f. (owes, refl, reports-posted after v q (omega arith) (λ x. omega arith)))
       (λ e f. (owes, refl, silent-posted after)))
     where
@@ -190,19 +191,19 @@ module _ (anc : ℕ → ℕ) (n me : ℕ) (small : n ≤ 64) (own : me < n) wher
       v : Rank
       v = viewing anc n me after r
 
-      fair : Fair anc n me v
-      fair = record {
-        marks-in = within-union n me (r .marks) (below q) (o .fair .marks-in) (within-below n me q (omega arith) (omega arith));
-        heard-in = o .fair .heard-in;
-        owed-in = o .fair .owed-in;
+      to-settle : ToSettle anc n me v
+      to-settle = record {
+        marks-in = within-union n me (r .marks) (below q) (o .to-settle .marks-in) (within-below n me q (omega arith) (omega arith));
+        heard-in = o .to-settle .heard-in;
+        owed-in = o .to-settle .owed-in;
         awaits = refl;
         waits = λ e. has-parent anc after me q (omega arith) l (marked-high (r .marks) q q (omega arith) ∙ free);
-        unless = o .fair .unless;
-        known = o .fair .known;
+        unless = o .to-settle .unless;
+        known = o .to-settle .known;
       }
 
-      owes : Fair anc n me (owing q v)
-      owes = record { marks-in = fair .marks-in; heard-in = fair .heard-in; owed-in = within-add n me (r .owed) q (o .fair .owed-in) (omega arith) (λ x. omega arith); awaits = refl; waits = fair .waits; unless = fair .unless; known = fair .known }
+      owes : ToSettle anc n me (owing q v)
+      owes = record { marks-in = to-settle .marks-in; heard-in = to-settle .heard-in; owed-in = within-add n me (r .owed) q (o .to-settle .owed-in) (omega arith) (λ x. omega arith); awaits = refl; waits = to-settle .waits; unless = to-settle .unless; known = to-settle .known }
 
   notice-again : (q : ℕ) (r : Rank) → has (r .marks) q ≡ true → noticing anc n me q r ≡ done anc n me (saying r silent) 0
   unfolding noticing
@@ -213,20 +214,20 @@ module _ (anc : ℕ → ℕ) (n me : ℕ) (small : n ≤ 64) (own : me < n) wher
   notice-new q r e = rw e
 
   -- what a death leaves, once q is marked
-  bereaved-leaves : (q : ℕ) (r : Rank) → Ordered anc n me r → q < n → (q ≡ me → ⊥) → Leaves (add (r .marks) q) (bereaved anc n me q r (viewing anc n me (add (r .marks) q) r))
+  bereaved-leaves : (q : ℕ) (r : Rank) → RankInOrder anc n me r → q < n → (q ≡ me → ⊥) → Leaves (add (r .marks) q) (bereaved anc n me q r (viewing anc n me (add (r .marks) q) r))
   unfolding regathering renewing saying viewing becoming hearing parentOf inheriting childrenOf
   bereaved-leaves q r o l d =
       bereaved-by anc n me (Leaves after) q r v
       (λ e f.
       orphaned-by anc n me (Leaves after) v
       (λ z. (
-        record { marks-in = marked; heard-in = within-none n me; owed-in = o .fair .owed-in; awaits = refl; waits = λ x. absurd (omega arith); unless = λ x. o .fair .unless (λ y. omega arith); known = omega arith },
+        record { marks-in = marked; heard-in = within-none n me; owed-in = o .to-settle .owed-in; awaits = refl; waits = λ x. absurd (omega arith); unless = λ x. o .to-settle .unless (λ y. omega arith); known = omega arith },
         refl,
         asks-posted after (children anc n after me) (within-children after) z,
       ))
       (λ z. (seen (λ x. z), refl, parent-posted v v z)))
       (λ e z h. (seen (λ x. absurd (omega arith)), refl, asks-posted after (meet (children anc n after me) (children anc n (r .marks) q)) (within-meet n me (children anc n after me) (children anc n (r .marks) q) (within-children after)) (still-root z)))
-      (λ g h. (seen (λ x y. o .fair .waits x (sym (parent-stays anc (r .marks) q me (g x)) ∙ y)), refl, silent-posted after))
+      (λ g h. (seen (λ x y. o .to-settle .waits x (sym (parent-stays anc (r .marks) q me (g x)) ∙ y)), refl, silent-posted after))
     where
       after : ℕ
       after = add (r .marks) q
@@ -235,29 +236,29 @@ module _ (anc : ℕ → ℕ) (n me : ℕ) (small : n ≤ 64) (own : me < n) wher
       v = viewing anc n me after r
 
       marked : Within n me after
-      marked = within-add n me (r .marks) q (o .fair .marks-in) l d
+      marked = within-add n me (r .marks) q (o .to-settle .marks-in) l d
 
-      seen : (r .phase ≡ waiting → parent anc after me ≡ none → ⊥) → Fair anc n me v
-      seen w = record { marks-in = marked; heard-in = o .fair .heard-in; owed-in = o .fair .owed-in; awaits = refl; waits = w; unless = o .fair .unless; known = o .fair .known }
+      seen : (r .phase ≡ waiting → parent anc after me ≡ none → ⊥) → ToSettle anc n me v
+      seen w = record { marks-in = marked; heard-in = o .to-settle .heard-in; owed-in = o .to-settle .owed-in; awaits = refl; waits = w; unless = o .to-settle .unless; known = o .to-settle .known }
 
       still-root : parent anc (r .marks) me ≡ none → parent anc after me ≡ none
       still-root z = no-parent anc after me (λ k b. has-add-more (r .marks) q k (no-parent-all anc (r .marks) me (omega arith) z k b))
 
-  pub notice-sound : (q : ℕ) (r : Rank) → Ordered anc n me r → q < n → (q ≡ me → ⊥) → Sound anc n me (add (r .marks) q) (noticing anc n me q r)
+  pub notice-in-order : (q : ℕ) (r : Rank) → RankInOrder anc n me r → q < n → (q ≡ me → ⊥) → ActedInOrder anc n me (add (r .marks) q) (noticing anc n me q r)
   unfolding saying
-  notice-sound q r o l d = ⊎-elim again new (passes-or-fails (has (r .marks) q))
+  notice-in-order q r o l d = ⊎-elim again new (passes-or-fails (has (r .marks) q))
     where
-      again : has (r .marks) q ≡ true → Sound anc n me (add (r .marks) q) (noticing anc n me q r)
-      again e = rw (notice-again q r e, add-again (r .marks) q e) (done-sound (saying r silent) 0 o (silent-posted (r .marks)))
+      again : has (r .marks) q ≡ true → ActedInOrder anc n me (add (r .marks) q) (noticing anc n me q r)
+      again e = rw (notice-again q r e, add-again (r .marks) q e) (done-in-order (saying r silent) 0 o (silent-posted (r .marks)))
 
-      new : has (r .marks) q ≡ false → Sound anc n me (add (r .marks) q) (noticing anc n me q r)
-      new e = rw (notice-new q r e) (leaves-sound (add (r .marks) q) (bereaved anc n me q r (viewing anc n me (add (r .marks) q) r)) (moved anc n (r .marks) q) (bereaved-leaves q r o l d))
+      new : has (r .marks) q ≡ false → ActedInOrder anc n me (add (r .marks) q) (noticing anc n me q r)
+      new e = rw (notice-new q r e) (leaves-in-order (add (r .marks) q) (bereaved anc n me q r (viewing anc n me (add (r .marks) q) r)) (moved anc n (r .marks) q) (bereaved-leaves q r o l d))
 
   -- A fresh rank is in order.
-  pub fresh-ordered : Ordered anc n me (freshRank anc n me)
+  pub fresh-rank-in-order : RankInOrder anc n me (freshRank anc n me)
   unfolding freshRank
-  fresh-ordered = record {
-    fair = record { marks-in = within-none n me; heard-in = within-none n me; owed-in = within-none n me; awaits = refl; waits = λ e. absurd (omega arith); unless = λ e. refl; known = omega arith };
+  fresh-rank-in-order = record {
+    to-settle = record { marks-in = within-none n me; heard-in = within-none n me; owed-in = within-none n me; awaits = refl; waits = λ e. absurd (omega arith); unless = λ e. refl; known = omega arith };
     gathers = λ e. absurd (omega arith);
   }
 
@@ -283,18 +284,18 @@ unfolding freshRank
 fresh-word anc n me = refl
 
 -- whom a rank in order awaits is a child not heard, and one that waits has a parent
-pub awaited-child : (anc : ℕ → ℕ) (n me : ℕ) (r : Rank) → Ordered anc n me r → (c : ℕ) → has (r .awaited) c ≡ true → (has (children anc n (r .marks) me) c ≡ true) × (has (r .heard) c ≡ false)
+pub awaited-child : (anc : ℕ → ℕ) (n me : ℕ) (r : Rank) → RankInOrder anc n me r → (c : ℕ) → has (r .awaited) c ≡ true → (has (children anc n (r .marks) me) c ≡ true) × (has (r .heard) c ≡ false)
 unfolding awaiting
 awaited-child anc n me r o c h =
-    let t : has (minus (children anc n (r .marks) me) (r .heard)) c ≡ true = subst (λ (w : ℕ). has w c ≡ true) (o .fair .awaits) h in
+    let t : has (minus (children anc n (r .marks) me) (r .heard)) c ≡ true = subst (λ (w : ℕ). has w c ≡ true) (o .to-settle .awaits) h in
     (minus-l (children anc n (r .marks) me) (r .heard) c t, minus-r (children anc n (r .marks) me) (r .heard) c t)
 
-pub waiting-led : (anc : ℕ → ℕ) (n me : ℕ) (r : Rank) → Ordered anc n me r → r .phase ≡ waiting → parent anc (r .marks) me ≡ none → ⊥
+pub waiting-led : (anc : ℕ → ℕ) (n me : ℕ) (r : Rank) → RankInOrder anc n me r → r .phase ≡ waiting → parent anc (r .marks) me ≡ none → ⊥
 unfolding parentOf
-waiting-led anc n me r o = o .fair .waits
+waiting-led anc n me r o = o .to-settle .waits
 
-pub fresh-kept : (anc : ℕ → ℕ) (n me : ℕ) (row : List ℕ) → n ≤ 64 → me < n → row ≡ fresh anc n 0 → Kept anc n me (freshRank anc n me) row
-fresh-kept anc n me row s l e = record { size = s; own = l; table = e ∙ sym (ap (fresh anc n) (fresh-marks anc n me)) }
+pub fresh-row-kept : (anc : ℕ → ℕ) (n me : ℕ) (row : List ℕ) → n ≤ 64 → me < n → row ≡ fresh anc n 0 → FreshRow anc n me (freshRank anc n me) row
+fresh-row-kept anc n me row s l e = record { size = s; own = l; table = e ∙ sym (ap (fresh anc n) (fresh-marks anc n me)) }
 
 -- ---- phases move as the rules say
 

@@ -1,8 +1,8 @@
 -- What each rule makes of the deaths that a rank knows, and what it counts as moved: a notice adds one death, an ASK every rank below its
 -- sender; the other rules add none and move nothing. Over any ancestor sets, of any rank. Assumes nothing.
+use mathlib.Core.Logic.{⊎-elim}
 use mathlib.Core.Path.{_≡_, refl, sym, _∙_}
 use mathlib.Core.Bool.{true, false}
-use mathlib.Core.Logic.{⊎-elim}
 use Prim.Native.Nat.{ℕ}
 use Rattle.sets.specs.Sets.{has, add, union, below}
 use Rattle.sets.proofs.Laws.Bools.{passes-or-fails}
@@ -23,7 +23,7 @@ module _ (anc : ℕ → ℕ) (n me : ℕ) where
   abbrev Keeps : ℕ → Said → Type 0
   Keeps marks s = s .rank .marks ≡ marks
 
-  settled-marks : (r : Rank) → Keeps (r .marks) (settled anc n me r)
+  pub settled-marks : (r : Rank) → Keeps (r .marks) (settled anc n me r)
   unfolding saying becoming deciding concluding
   settled-marks r = settled-by anc n me (Keeps (r .marks)) r (λ h. refl) (λ p a e. refl) (λ p a e. refl)
 

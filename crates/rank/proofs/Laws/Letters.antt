@@ -1,16 +1,15 @@
 -- The list of messages that a rule sends: as long as its sets have members, each to a member of its set, in ascending order of receiver.
 -- Assumes nothing.
-use mathlib.Core.Path.{_≡_, refl, sym, ap, ap₂, subst, _∙_}
+use mathlib.Core.Path.{_≡_, refl, sym, ap, subst, _∙_}
 use mathlib.Core.List.{[], _∷_, map}
-use Prim.Native.Nat.{ℕ, _+_, _<_}
-use lib.ListN.{length, getD, length-append, length-map, List·getD-map}
+use Prim.Native.Nat.{ℕ, _<_}
+use lib.ListN.{length, getD, length-map, List·getD-map}
 use Rattle.sets.specs.Sets.{has, only, minus, count, listed}
 use Rattle.sets.proofs.Laws.Members.{has-zero}
 use Rattle.sets.proofs.Laws.Searches.{Smallest, count-none, length-listed, listed-none, listed-ascends, listed-first}
 use Rattle.rank.specs.declared.Send.{Send}
 use Rattle.rank.specs.declared.Message.{Message}
-use Rattle.rank.specs.declared.Acted.{Acted}
-use Rattle.rank.specs.Sends.{silent, letter, letters, sent}
+use Rattle.rank.specs.Sends.{silent, letter, letters}
 
 -- a message in fields
 pub letter-is : (me : ℕ) (s : Send) (q : ℕ) → _≡_ {A = Message} (letter me s q) (record { kind = s .kind; from = me; to = q; word = s .word })
@@ -25,11 +24,6 @@ length-letters me s = length-map (listed (has (s .to)) 64) (letter me s) ∙ len
 pub silent-size : count (has (silent .to)) 64 ≡ 0
 unfolding silent
 silent-size = count-none (has 0) 64 (λ k l. has-zero k)
-
--- the list's length is the sum of the set sizes
-pub length-sent : (me : ℕ) (a : Acted) → length (sent me a) ≡ count (has (a .first .to)) 64 + count (has (a .second .to)) 64
-unfolding sent
-length-sent me a = length-append (letters me (a .first)) (letters me (a .second)) ∙ ap₂ (λ (x y : ℕ). x + y) (length-letters me (a .first)) (length-letters me (a .second))
 
 -- the message at a place of the list
 pub letter-at : (me : ℕ) (s : Send) (i : ℕ) → getD (letters me s) i (letter me s 0) ≡ letter me s (getD (listed (has (s .to)) 64) i 0)

@@ -1,27 +1,30 @@
 -- The run along its code: the state's parts are held by themselves, and what is still to come has the same end. Assumes nothing.
 use mathlib.Core.Path.{_≡_, refl, sym, ap, subst, _∙_}
 use mathlib.Core.Bool.{cond}
-use mathlib.Core.List.{List, [], _++_}
+use mathlib.Core.List.{List, []}
 use Prim.Native.Nat.{ℕ, suc, _+_, _*_, _-_, _≤_, _<_}
 use native.Mathlib.Omega.{arith}
 use lib.ListN.{length, getD, set, take, length-set}
-use Rattle.sets.specs.Sets.{has, add, count}
+use Rattle.sets.specs.Sets.{add, count}
 use Rattle.tree.specs.Tree.{flat}
 use Rattle.rank.specs.declared.Rank.{Rank}
 use Rattle.rank.specs.declared.Message.{Message}
-use Rattle.rank.specs.Sends.{letters}
-use Rattle.group.specs.declared.State.{State}
-use Rattle.group.specs.declared.Plan.{Plan}
-use Rattle.group.specs.declared.Joined.{Joined}
+use Rattle.rank.specs.Sends.{size}
+use Rattle.net.specs.declared.Joined.{Joined}
+use Rattle.net.specs.Net.{zeroMessage, padded, placed}
+use Rattle.state.specs.declared.State.{State}
+use Rattle.state.specs.States.{zeroRank, joined}
+use Rattle.order.specs.Between.{InOrder}
+use Rattle.plans.specs.declared.Plan.{Plan}
+use Rattle.plans.specs.Plans.{subject, planned}
+use Rattle.plans.specs.Between.{FreshSubject}
+use Rattle.plans.proofs.Laws.Accepting.{refused-quiet}
 use Rattle.group.specs.declared.Stepped.{Stepped}
-use Rattle.group.specs.Net.{zeroMessage, padded, without}
-use Rattle.group.specs.States.{zeroRank, joined}
-use Rattle.group.specs.Events.{subject, planned, placed}
-use Rattle.group.specs.Order.{Ready, Orderly}
-use Rattle.group.proofs.Laws.Stepping.{subject-below, step-ready, step-held, step-count, step-refused, step-accepted, refused-quiet}
+use Rattle.group.specs.Events.{posted}
+use Rattle.group.proofs.Laws.Stepping.{subject-below, step-ready, step-held, step-count, step-refused, step-accepted}
 use Rattle.group.proofs.Laws.Preserving.{step-keeps-order}
-use Rattle.schedule.specs.declared.Event.{Event}
-use Rattle.schedule.specs.Files.{eventAt}
+use Rattle.files.specs.declared.Event.{Event}
+use Rattle.files.specs.Files.{eventAt}
 use Rattle.schedule.specs.Runs.{End, written, stepAt, played}
 
 -- A state from its parts.
@@ -34,14 +37,14 @@ pub record Going (file : List ℕ) (total : ℕ) (s₀ : State) (out₀ : List �
   pub room : 3 * total ≤ length out
   pub within : k ≤ total
   pub kept : length out ≡ length out₀
-  pub orderly : Orderly flat s
+  pub in-order : InOrder flat s
   pub same-end : played flat file (total - k) k s out ≡ played flat file total 0 s₀ out₀
 
-going-start : (file : List ℕ) (total : ℕ) (s : State) (out : List ℕ) → 6 + 9 * total ≤ length file → 3 * total ≤ length out → Orderly flat s → Going file total s out s out 0
-going-start file total s out f r o = record { file-long = f; room = r; within = omega arith; kept = refl; orderly = o; same-end = ap (λ (t : ℕ). played flat file t 0 s out) (let z : total - 0 ≡ total = omega arith in z) }
+going-start : (file : List ℕ) (total : ℕ) (s : State) (out : List ℕ) → 6 + 9 * total ≤ length file → 3 * total ≤ length out → InOrder flat s → Going file total s out s out 0
+going-start file total s out f r o = record { file-long = f; room = r; within = omega arith; kept = refl; in-order = o; same-end = ap (λ (t : ℕ). played flat file t 0 s out) (let z : total - 0 ≡ total = omega arith in z) }
 
 -- The code starts from the parts of s and ends with them put together.
-pub going-begin : (file : List ℕ) (total : ℕ) (s : State) (t : List (List ℕ)) (out : List ℕ) → t ≡ s .tables → 6 + 9 * total ≤ length file → 3 * total ≤ length out → Orderly flat s
+pub going-begin : (file : List ℕ) (total : ℕ) (s : State) (t : List (List ℕ)) (out : List ℕ) → t ≡ s .tables → 6 + 9 * total ≤ length file → 3 * total ≤ length out → InOrder flat s
     → Going file total (joined (s .group) t) out (joined (s .group) t) out 0
 going-begin file total s t out e f r o = subst (λ (x : List (List ℕ)). Going file total (joined (s .group) x) out (joined (s .group) x) out 0) (sym e) (going-start file total s out f r o)
 
@@ -59,7 +62,7 @@ going-on file total s₀ out₀ s out k u g l e =
       room = omega (arith, g .room, written-long out k (u .answer) (u .sent) (u .moved));
       within = omega arith;
       kept = written-long out k (u .answer) (u .sent) (u .moved) ∙ g .kept;
-      orderly = subst (λ (x : Stepped). Orderly flat (x .state)) (sym e) (step-keeps-order flat s (eventAt file k .kind) (eventAt file k .a) (eventAt file k .b) (g .orderly));
+      in-order = subst (λ (x : Stepped). InOrder flat (x .state)) (sym e) (step-keeps-order flat s (eventAt file k .kind) (eventAt file k .a) (eventAt file k .b) (g .in-order));
       same-end = next (total - (k + 1)) (omega arith) ∙ g .same-end;
     }
   where
@@ -78,25 +81,25 @@ going-room file total s₀ out₀ s out k g l = omega (arith, g .room)
 
 pub going-subject : (file : List ℕ) (total : ℕ) (s₀ : State) (out₀ : List ℕ) (n dead c : ℕ) (ranks : List Rank) (net : List Message) (tables : List (List ℕ)) (out : List ℕ) (k : ℕ) (kind a : ℕ) (m : Message) (me : ℕ)
     → Going file total s₀ out₀ (held n dead c ranks net tables) out k → m ≡ getD net a zeroMessage → me ≡ subject n kind a m → me < 64
-going-subject file total s₀ out₀ n dead c ranks net tables out k kind a m me g = subject-below (held n dead c ranks net tables) kind a m me (g .orderly)
+going-subject file total s₀ out₀ n dead c ranks net tables out k kind a m me g = subject-below (held n dead c ranks net tables) kind a m me (g .in-order)
 
 pub going-ready : (file : List ℕ) (total : ℕ) (s₀ : State) (out₀ : List ℕ) (n dead c : ℕ) (ranks : List Rank) (net : List Message) (tables : List (List ℕ)) (out : List ℕ) (k : ℕ) (kind a : ℕ) (m : Message) (me : ℕ)
-    → Going file total s₀ out₀ (held n dead c ranks net tables) out k → m ≡ getD net a zeroMessage → me ≡ subject n kind a m → Ready flat n m me (getD ranks me zeroRank) (getD tables me [])
-going-ready file total s₀ out₀ n dead c ranks net tables out k kind a m me g e f = step-ready (held n dead c ranks net tables) kind a m me tables (g .orderly) e f refl
+    → Going file total s₀ out₀ (held n dead c ranks net tables) out k → m ≡ getD net a zeroMessage → me ≡ subject n kind a m → FreshSubject flat n m me (getD ranks me zeroRank) (getD tables me [])
+going-ready file total s₀ out₀ n dead c ranks net tables out k kind a m me g e f = step-ready (held n dead c ranks net tables) kind a m me tables (g .in-order) e f refl
 
 pub going-held : (file : List ℕ) (total : ℕ) (s₀ : State) (out₀ : List ℕ) (n dead c : ℕ) (ranks : List Rank) (net : List Message) (tables : List (List ℕ)) (out : List ℕ) (k : ℕ)
     → Going file total s₀ out₀ (held n dead c ranks net tables) out k → net ≡ padded (take c net)
-going-held file total s₀ out₀ n dead c ranks net tables out k g = step-held (held n dead c ranks net tables) (g .orderly)
+going-held file total s₀ out₀ n dead c ranks net tables out k g = step-held (held n dead c ranks net tables) (g .in-order)
 
 pub going-count : (file : List ℕ) (total : ℕ) (s₀ : State) (out₀ : List ℕ) (n dead c : ℕ) (ranks : List Rank) (net : List Message) (tables : List (List ℕ)) (out : List ℕ) (k : ℕ)
     → Going file total s₀ out₀ (held n dead c ranks net tables) out k → c ≤ 128
-going-count file total s₀ out₀ n dead c ranks net tables out k g = step-count (held n dead c ranks net tables) (g .orderly)
+going-count file total s₀ out₀ n dead c ranks net tables out k g = step-count (held n dead c ranks net tables) (g .in-order)
 
 -- ---- the next turn
 
 pub going-refused : (file : List ℕ) (total : ℕ) (s₀ : State) (out₀ : List ℕ) (n dead c : ℕ) (ranks : List Rank) (net : List Message) (tables : List (List ℕ)) (out : List ℕ) (k : ℕ) (e : Event) (m : Message) (me : ℕ) (p : Plan) (v : List ℕ)
     → Going file total s₀ out₀ (held n dead c ranks net tables) out k → k < total → e ≡ eventAt file k → m ≡ getD net (e .a) zeroMessage → me ≡ subject n (e .kind) (e .a) m
-    → p ≡ planned flat n dead c (e .kind) (e .a) (e .b) m me (getD ranks me zeroRank) (getD tables me []) → v ≡ written out k (p .answer) (count (has (p .acted .first .to)) 64 + count (has (p .acted .second .to)) 64) (p .acted .moved) → (p .answer ≡ 0 → ⊥)
+    → p ≡ planned flat n dead c (e .kind) (e .a) (e .b) m me (getD ranks me zeroRank) (getD tables me []) → v ≡ written out k (p .answer) (size (p .acted .first) + size (p .acted .second)) (p .acted .moved) → (p .answer ≡ 0 → ⊥)
     → Going file total s₀ out₀ (held n dead c ranks net tables) v (k + 1)
 unfolding stepAt
 going-refused file total s₀ out₀ n dead c ranks net tables out k e m me p v g l ee em eg ep ev z =
@@ -107,15 +110,14 @@ going-refused file total s₀ out₀ n dead c ranks net tables out k e m me p v 
 
 pub going-accepted : (file : List ℕ) (total : ℕ) (s₀ : State) (out₀ : List ℕ) (n dead c : ℕ) (ranks : List Rank) (net : List Message) (tables : List (List ℕ)) (out : List ℕ) (k : ℕ) (e : Event) (m : Message) (me : ℕ) (p : Plan) (v : List ℕ) (j : Joined) (d : ℕ)
     → Going file total s₀ out₀ (held n dead c ranks net tables) out k → k < total → e ≡ eventAt file k → m ≡ getD net (e .a) zeroMessage → me ≡ subject n (e .kind) (e .a) m
-    → p ≡ planned flat n dead c (e .kind) (e .a) (e .b) m me (getD ranks me zeroRank) (getD tables me []) → v ≡ written out k (p .answer) (count (has (p .acted .first .to)) 64 + count (has (p .acted .second .to)) 64) (p .acted .moved) → p .answer ≡ 0
-    → j ≡ placed ((cond (p .leaves) (without (e .a) (take c net)) (take c net) ++ letters me (p .acted .first)) ++ letters me (p .acted .second))
-    → d ≡ cond (p .dies) (add dead me) dead
+    → p ≡ planned flat n dead c (e .kind) (e .a) (e .b) m me (getD ranks me zeroRank) (getD tables me []) → v ≡ written out k (p .answer) (size (p .acted .first) + size (p .acted .second)) (p .acted .moved) → p .answer ≡ 0
+    → j ≡ placed (posted (take c net) (e .a) me p) → d ≡ cond (p .dies) (add dead me) dead
     → Going file total s₀ out₀ (held n d (j .count) (set ranks me (p .acted .rank)) (j .net) (set tables me (p .acted .row))) v (k + 1)
 unfolding stepAt
 going-accepted file total s₀ out₀ n dead c ranks net tables out k e m me p v j d g l ee em eg ep ev z ej ed =
     let u : State = held n d (j .count) (set ranks me (p .acted .rank)) (j .net) (set tables me (p .acted .row)) in
-    let x = count (has (p .acted .first .to)) 64 in
-    let y = count (has (p .acted .second .to)) 64 in
+    let x = size (p .acted .first) in
+    let y = size (p .acted .second) in
     rw (ev, z)
     (going-on file total s₀ out₀ (held n dead c ranks net tables) out k (record { answer = 0; sent = x + y; moved = p .acted .moved; state = u }) g l
     (step-accepted (held n dead c ranks net tables) (e .kind) (e .a) (e .b) m me tables p j d x y u em eg refl ep z ej ed refl refl refl ∙ rw ee))

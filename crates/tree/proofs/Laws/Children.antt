@@ -11,7 +11,8 @@ use Rattle.sets.specs.Sets.{none, has, add, union, below}
 use Rattle.sets.proofs.Laws.Bools.{clash, same-test, eq-or-ne, lt-or-le, and-i, and-l, and-r, not-i}
 use Rattle.sets.proofs.Laws.Members.{setOf-has, setOf-within, setOf-passes, setOf-cong, has-add-same, has-add-other, has-add-more, has-add-less}
 use Rattle.tree.specs.Tree.{parent, children}
-use Rattle.tree.specs.Relations.{Above, Ancestry, Chained, Under, Covered}
+use Rattle.tree.specs.Relations.{Above, Ancestry, Chained}
+use Rattle.tree.proofs.Kin.{Under, UnderAChild}
 use Rattle.tree.proofs.Laws.Parents.{Marked, Free, Parent, nearest, lowest, nobody, parent-cases, parent-is, parent-lt, parent-free, no-parent-all, parent-stays, marked-more, marked-high}
 
 -- c is a child of p
@@ -245,35 +246,35 @@ under-chain anc chain a b x (inr u) (inr v) =
 
 -- ---- whom the children stand above
 
-itself : (anc : ℕ → ℕ) (n marks p x : ℕ) → x < n → Free marks x → parent anc marks x ≡ p → Covered anc n marks p x
+itself : (anc : ℕ → ℕ) (n marks p x : ℕ) → x < n → Free marks x → parent anc marks x ≡ p → UnderAChild anc n marks p x
 itself anc n marks p x l f e = record { child = x; isChild = child-i anc n marks p x (record { within = l; free = f; linked = e }); under = inl refl }
 
-further : (anc : ℕ → ℕ) → Ancestry anc → (n marks p r x : ℕ) → Above anc x r → Covered anc n marks p r → Covered anc n marks p x
+further : (anc : ℕ → ℕ) → Ancestry anc → (n marks p r x : ℕ) → Above anc x r → UnderAChild anc n marks p r → UnderAChild anc n marks p x
 further anc tree n marks p r x u c = record { child = c .child; isChild = c .isChild; under = under-through anc tree (c .child) r x u (c .under) }
 
 -- T1: an unmarked rank under p stands under a child of p, or is one. The first number bounds x.
-covers : (anc : ℕ → ℕ) → Ancestry anc → Chained anc → (n marks p d x : ℕ) → Free marks p → x ≤ d → x < n → Free marks x → Above anc x p → Covered anc n marks p x
+covers : (anc : ℕ → ℕ) → Ancestry anc → Chained anc → (n marks p d x : ℕ) → Free marks p → x ≤ d → x < n → Free marks x → Above anc x p → UnderAChild anc n marks p x
 covers anc tree chain n marks p zero x fp b l f u = absurd (omega (arith, tree .smaller x p u))
 covers anc tree chain n marks p (suc d) x fp b l f u =
     go (λ r. covers anc tree chain n marks p d r fp) (parent anc marks x) refl (parent-cases anc marks x)
   where
-    on : ((r : ℕ) → r ≤ d → r < n → Free marks r → Above anc r p → Covered anc n marks p r) → (r : ℕ) → parent anc marks x ≡ r → r < x → Above anc x r → Free marks r → (r < p → Marked marks p) → Covered anc n marks p x
+    on : ((r : ℕ) → r ≤ d → r < n → Free marks r → Above anc r p → UnderAChild anc n marks p r) → (r : ℕ) → parent anc marks x ≡ r → r < x → Above anc x r → Free marks r → (r < p → Marked marks p) → UnderAChild anc n marks p x
     on rest r e m v g h =
         ⊎-elim (λ (q : r ≡ p). itself anc n marks p x l f (e ∙ q))
         (λ (q : r ≡ p → ⊥). ⊎-elim (λ (y : r < p). absurd (clash (has marks p) (h y) fp))
         (λ (y : p ≤ r). further anc tree n marks p r x v (rest r (omega arith) (omega arith) g (chain x p r u v (omega arith)))) (lt-or-le r p))
         (eq-or-ne r p)
 
-    go : ((r : ℕ) → r ≤ d → r < n → Free marks r → Above anc r p → Covered anc n marks p r) → (r : ℕ) → parent anc marks x ≡ r → Parent anc marks x r → Covered anc n marks p x
+    go : ((r : ℕ) → r ≤ d → r < n → Free marks r → Above anc r p → UnderAChild anc n marks p r) → (r : ℕ) → parent anc marks x ≡ r → Parent anc marks x r → UnderAChild anc n marks p x
     go rest r e (nearest m v g h) = on rest r e m v g (λ y. h p y (tree .smaller x p u) u)
     go rest r e (lowest m g h v) = absurd (clash (has marks p) (v p (tree .smaller x p u) u) fp)
     go rest r e (nobody h) = absurd (clash (has marks p) (h p (tree .smaller x p u)) fp)
 
-pub covered-under : (anc : ℕ → ℕ) → Ancestry anc → Chained anc → (n marks p x : ℕ) → Free marks p → x < n → Free marks x → Above anc x p → Covered anc n marks p x
+pub covered-under : (anc : ℕ → ℕ) → Ancestry anc → Chained anc → (n marks p x : ℕ) → Free marks p → x < n → Free marks x → Above anc x p → UnderAChild anc n marks p x
 covered-under anc tree chain n marks p x fp l f u = covers anc tree chain n marks p x x fp (omega arith) l f u
 
 -- T2: where p has no parent, every other unmarked rank does.
-covers-all : (anc : ℕ → ℕ) → Ancestry anc → (n marks p d x : ℕ) → p ≤ none → parent anc marks p ≡ none → Free marks p → x ≤ d → x < n → Free marks x → (x ≡ p → ⊥) → Covered anc n marks p x
+covers-all : (anc : ℕ → ℕ) → Ancestry anc → (n marks p d x : ℕ) → p ≤ none → parent anc marks p ≡ none → Free marks p → x ≤ d → x < n → Free marks x → (x ≡ p → ⊥) → UnderAChild anc n marks p x
 covers-all anc tree n marks p zero x s root fp b l f o = absurd (omega (arith, root-least anc marks p x s root f o))
 covers-all anc tree n marks p (suc d) x s root fp b l f o =
     go (λ r. covers-all anc tree n marks p d r s root fp) (parent anc marks x) refl (parent-cases anc marks x)
@@ -281,12 +282,12 @@ covers-all anc tree n marks p (suc d) x s root fp b l f o =
     p<x : p < x
     p<x = root-least anc marks p x s root f o
 
-    go : ((r : ℕ) → r ≤ d → r < n → Free marks r → (r ≡ p → ⊥) → Covered anc n marks p r) → (r : ℕ) → parent anc marks x ≡ r → Parent anc marks x r → Covered anc n marks p x
+    go : ((r : ℕ) → r ≤ d → r < n → Free marks r → (r ≡ p → ⊥) → UnderAChild anc n marks p r) → (r : ℕ) → parent anc marks x ≡ r → Parent anc marks x r → UnderAChild anc n marks p x
     go rest r e (nearest m v g h) =
         ⊎-elim (λ (q : r ≡ p). itself anc n marks p x l f (e ∙ q)) (λ (q : r ≡ p → ⊥). further anc tree n marks p r x v (rest r (omega arith) (omega arith) g q)) (eq-or-ne r p)
     go rest r e (lowest m g h v) =
         ⊎-elim (λ (q : r ≡ p). itself anc n marks p x l f (e ∙ q)) (λ (q : r ≡ p → ⊥). absurd (clash (has marks p) (h p (root-least anc marks p r s root g q)) fp)) (eq-or-ne r p)
     go rest r e (nobody h) = absurd (clash (has marks p) (h p p<x) fp)
 
-pub covered-by-root : (anc : ℕ → ℕ) → Ancestry anc → (n marks p x : ℕ) → p ≤ none → parent anc marks p ≡ none → Free marks p → x < n → Free marks x → (x ≡ p → ⊥) → Covered anc n marks p x
+pub covered-by-root : (anc : ℕ → ℕ) → Ancestry anc → (n marks p x : ℕ) → p ≤ none → parent anc marks p ≡ none → Free marks p → x < n → Free marks x → (x ≡ p → ⊥) → UnderAChild anc n marks p x
 covered-by-root anc tree n marks p x s root fp l f o = covers-all anc tree n marks p x x s root fp (omega arith) l f o

@@ -1,8 +1,8 @@
 -- Climbing: what the path of a rank is, how long it may be, and how a climb follows it link by link. Assumes nothing.
+use mathlib.Core.Logic.{⊎-elim}
 use mathlib.Core.Path.{_≡_, refl, sym, ap, subst, _∙_}
 use mathlib.Core.Bool.{false, cond}
 use mathlib.Core.List.{List, [], _∷_}
-use mathlib.Core.Logic.{⊎-elim}
 use Prim.Native.Nat.{ℕ, zero, suc, _+_, _-_, _/_, _^_, _≤_, _<_}
 use native.Mathlib.Nat.{two-pow-succ, le-refl, le-of-lt, le-trans, add-zero}
 use native.Mathlib.Omega.{arith}
@@ -15,7 +15,8 @@ use Rattle.sets.specs.Sets.{none, has, count, smallest}
 use Rattle.sets.proofs.Laws.Bools.{fails, eq-or-ne, cond-true, cond-false}
 use Rattle.sets.proofs.Laws.Searches.{count-fewer, count-wide, count-le, count-add, LeastOf, least, smallest-cases}
 use Rattle.tree.specs.Tree.{flat, parent, upwards, path, links, reached, digits}
-use Rattle.tree.specs.Relations.{Above, Ancestry, Rooted}
+use Rattle.tree.specs.Relations.{Above, Ancestry}
+use Rattle.tree.proofs.Kin.{Rooted}
 use Rattle.tree.specs.Refusals.{accepted, badSize, badRank, tooShort}
 use Rattle.tree.specs.Calls.{Told, told, climbing}
 use Rattle.tree.specs.declared.Climbed.{Climbed}

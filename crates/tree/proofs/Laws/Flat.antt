@@ -16,7 +16,8 @@ use Rattle.sets.proofs.Laws.Bools.{clash, eq-or-ne, or-cases}
 use Rattle.sets.proofs.Laws.Members.{has-zero, has-add, has-add-same, has-add-more, minus-l, minus-r, minus-not, has-below-lt, has-below, none-in}
 use Rattle.sets.proofs.Laws.Searches.{TopOf, LeastOf, top, least, largest-cases, smallest-cases}
 use Rattle.tree.specs.Tree.{halvings, flat, parent}
-use Rattle.tree.specs.Relations.{Above, Ancestry, Rooted, Chained}
+use Rattle.tree.specs.Relations.{Above, Ancestry, Chained}
+use Rattle.tree.proofs.Kin.{Rooted}
 use Rattle.tree.proofs.Laws.Parents.{Marked, nearest, lowest, nobody, parent-is}
 
 halvings-enough : (d e p : ℕ) → p ≤ d → p ≤ e → halvings d p ≡ halvings e p

@@ -11,7 +11,8 @@ use Rattle.sets.proofs.Laws.Bools.{clash, fails, passes, lt-or-le, and-i, and-l
 use Rattle.sets.proofs.Laws.Searches.{Nobody, TopOf, LeastOf, top, least, largest-cases, largest-is, largest-none, smallest-cases, smallest-is, smallest-none}
 use Rattle.sets.proofs.Laws.Members.{has-add-same, has-add-other, has-add-more, has-union, has-below-lt, has-below-ge}
 use Rattle.tree.specs.Tree.{parent}
-use Rattle.tree.specs.Relations.{Above, Ancestry, MayLead}
+use Rattle.tree.specs.Relations.{Above, Ancestry}
+use Rattle.tree.proofs.Kin.{MayLead}
 
 abbrev pub Marked : ℕ → ℕ → Type 0
 Marked marks p = has marks p ≡ true

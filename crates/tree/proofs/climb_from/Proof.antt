@@ -2,8 +2,8 @@
 -- rank, as a parent is smaller. Assumes nothing.
 use Prim.Native.Nat.{_≤_}
 use native.Mathlib.Omega.{arith}
-use Rattle.tree.specs.Tree.{flat}
 use borrow.Author.Needs.{needs}
+use Rattle.tree.specs.Tree.{flat}
 use Rattle.tree.proofs.Laws.Climbing.{Climbing, climbing-start, climbing-step, climbing-less, climbing-root, climbing-short}
 use Rattle.tree.proofs.climb_from.Statement.{statement}
 use Rattle.tree.proofs.climb_from.Tie as tie

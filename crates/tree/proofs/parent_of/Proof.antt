@@ -1,7 +1,7 @@
 -- `tree::parent_of` meets its contract: where an ancestor is unmarked, the largest such member is the parent; else the smallest
 -- unmarked member below. Assumes nothing.
-use Rattle.tree.proofs.Laws.Flat.{finds-nearest, finds-lowest}
 use borrow.Author.Needs.{needs}
+use Rattle.tree.proofs.Laws.Flat.{finds-nearest, finds-lowest}
 use Rattle.tree.proofs.parent_of.Statement.{statement}
 use Rattle.tree.proofs.parent_of.Tie as tie
 

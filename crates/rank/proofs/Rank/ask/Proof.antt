@@ -1,6 +1,6 @@
 -- `Rank::ask` meets its contract: mark all below q, answer, settle. Assumes nothing.
 use borrow.Author.Needs.{needs}
-use Rattle.rank.proofs.Laws.Acting.{kept-below, kept-seen-below, kept-asked, ask-returns}
+use Rattle.rank.proofs.Laws.Acting.{row-below, row-seen-below, row-asked, ask-returns}
 use Rattle.rank.proofs.Rank.ask.Statement.{statement}
 use Rattle.rank.proofs.Rank.ask.Tie as tie
 
@@ -8,13 +8,13 @@ mend-below-requires : tie.Need-mend-below-requires
 mend-below-requires c κs = search needs
 
 view-requires : tie.Need-view-requires
-view-requires c κs = search kept-below
+view-requires c κs = search row-below
 
 answer-requires : tie.Need-answer-requires
-answer-requires c κs = (search kept-seen-below, search needs)
+answer-requires c κs = (search row-seen-below, search needs)
 
 settle-requires : tie.Need-settle-requires
-settle-requires c κs = search (kept-asked, kept-seen-below)
+settle-requires c κs = search (row-asked, row-seen-below)
 
 returns : tie.Need-returns
 returns c = search ask-returns

@@ -1,7 +1,7 @@
 -- `Rank::notice` meets its contract: mark q, see what the death means, settle. Assumes nothing.
 use mathlib.Core.Path.{sym, _∙_}
 use borrow.Author.Needs.{needs}
-use Rattle.rank.proofs.Laws.Acting.{kept-mended, kept-seen, kept-bereaved, notice-again, notice-returns}
+use Rattle.rank.proofs.Laws.Acting.{row-mended, row-seen, row-bereaved, notice-again, notice-returns}
 use Rattle.rank.proofs.Rank.notice.Statement.{statement}
 use Rattle.rank.proofs.Rank.notice.Tie as tie
 
@@ -21,15 +21,15 @@ mend-requires : tie.Need-mend-requires
 mend-requires c κs = search needs
 
 view-requires : tie.Need-view-requires
-view-requires c κs = search kept-mended
+view-requires c κs = search row-mended
 
 bereave-requires : tie.Need-bereave-requires
 bereave-requires c κs =
     let unmarked = c .before .before .before in
-    (search needs, (search kept-seen, (search needs, sym (unmarked .before .member .ensures) ∙ unmarked .if1 .left)))
+    (search needs, (search row-seen, (search needs, sym (unmarked .before .member .ensures) ∙ unmarked .if1 .left)))
 
 settle-requires : tie.Need-settle-requires
-settle-requires c κs = search (kept-bereaved, kept-seen)
+settle-requires c κs = search (row-bereaved, row-seen)
 
 returns-2 : tie.Need-returns-2
 returns-2 c = search notice-returns

@@ -1,6 +1,6 @@
 -- `Rank::orphan` meets its contract: the new parent, or none, is read off the row. Assumes nothing.
 use borrow.Author.Needs.{needs}
-use Rattle.rank.proofs.Laws.Acting.{kept-parent-lt, orphan-reports, orphan-gathers}
+use Rattle.rank.proofs.Laws.Acting.{row-parent-lt, orphan-reports, orphan-gathers}
 use Rattle.rank.proofs.Rank.orphan.Statement.{statement}
 use Rattle.rank.proofs.Rank.orphan.Tie as tie
 
@@ -8,7 +8,7 @@ array-read-parent : tie.Need-array-read-parent
 array-read-parent c = search needs
 
 report-requires : tie.Need-report-requires
-report-requires c κs = search kept-parent-lt
+report-requires c κs = search row-parent-lt
 
 returns : tie.Need-returns
 returns c = search orphan-reports

@@ -1,48 +1,14 @@
--- `Rank::settle` meets its contract: each return is a case of the rule. Assumes nothing.
+-- `Rank::settle` meets its contract. Assumes nothing.
 use borrow.Author.Needs.{needs}
-use Rattle.rank.specs.Records.{becoming}
-use Rattle.rank.proofs.Laws.Acting.{kept-parent-lt, settle-other, settle-awaits, settle-root, settle-child}
+use Rattle.rank.proofs.Laws.Acting.{settle-returns}
 use Rattle.rank.proofs.Rank.settle.Statement.{statement}
 use Rattle.rank.proofs.Rank.settle.Tie as tie
 
-silent-requires : tie.Need-silent-requires
-silent-requires c κs = search needs
+settled-requires : tie.Need-settled-requires
+settled-requires c κs = search needs
 
 returns : tie.Need-returns
-returns c = search settle-other
-
-silent-requires-2 : tie.Need-silent-requires-2
-silent-requires-2 c κs = search needs
-
-returns-2 : tie.Need-returns-2
-returns-2 c = search settle-awaits
-
-array-read-parent : tie.Need-array-read-parent
-array-read-parent c = search needs
-
-decide-requires : tie.Need-decide-requires
-decide-requires c κs = search needs
-
-returns-3 : tie.Need-returns-3
-returns-3 c = search settle-root
-
-report-requires : tie.Need-report-requires
-report-requires c κs = search kept-parent-lt
-
-returns-4 : tie.Need-returns-4
-unfolding becoming
-returns-4 c = search settle-child
+returns c = search settle-returns
 
 pub settle-spec : {M : Type 1} → statement M
-settle-spec =
-    tie.close
-    (tie.spec
-    silent-requires
-    returns
-    silent-requires-2
-    returns-2
-    array-read-parent
-    decide-requires
-    returns-3
-    report-requires
-    returns-4)
+settle-spec = tie.close (tie.spec settled-requires returns)

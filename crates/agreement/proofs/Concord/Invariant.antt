@@ -1,0 +1,47 @@
+-- The invariant behind "the same result". Reports and answers travel along links that the deaths allow. Whoever a living undecided rank
+-- covers, by its own place in the tree, by a rank that it has heard or by a report on its way, is open: undecided itself, with no DOWN to come.
+-- So all the results that living ranks hold, or are about to take, are one.
+use Prim.Native.Nat.{ℕ, _<_}
+use mathlib.Core.Path.{_≡_}
+use mathlib.Core.Bool.{true, false}
+use mathlib.Core.Logic.{_⊎_}
+use Rattle.sets.specs.Sets.{has}
+use Rattle.tree.proofs.Kin.{Under, MayLead}
+use Rattle.rank.specs.Words.{decided, up, down}
+use Rattle.state.specs.declared.State.{State}
+use Rattle.state.specs.States.{rankAt}
+use Rattle.group.proofs.Moves.{Flies, Carries}
+use Rattle.agreement.specs.Progress.{Lives}
+
+-- Where these ranks are dead, b may send x a DOWN: b may be x's parent, or every rank below x is dead.
+abbrev pub MayTell : (ℕ → ℕ) → ℕ → ℕ → ℕ → Type 0
+MayTell anc dead b x = MayLead anc dead x b ⊎ ((a : ℕ) → a < x → has dead a ≡ true)
+
+module _ (anc : ℕ → ℕ) (n : ℕ) where
+  -- A DOWN with this word is on its way to a living rank that has not marked its sender: it will be taken.
+  abbrev pub Arrives : State → ℕ → ℕ → ℕ → Type 0
+  Arrives s b x w = Carries s down b x w × Lives n s x × (has (rankAt s x .marks) b ≡ false)
+
+  -- c answers to y for all under c: c is y, y has heard c, or c's report to y is on its way.
+  abbrev pub Answers : State → ℕ → ℕ → Type 0
+  Answers s y c = (c ≡ y) ⊎ ((has (rankAt s y .heard) c ≡ true) ⊎ Flies s up c y)
+
+  -- y covers x.
+  abbrev pub SpokenFor : State → ℕ → ℕ → Type 0
+  SpokenFor s y x = (c : ℕ) × (x ≡ y → ⊥) × Answers s y c × Under anc c x
+
+  -- x is undecided, and no DOWN arrives at it.
+  abbrev pub Open : State → ℕ → Type 0
+  Open s x = (rankAt s x .phase ≡ decided → ⊥) × ((b w : ℕ) → Arrives s b x w → ⊥)
+
+  -- A living decided rank has this result, or a DOWN that carries it arrives.
+  abbrev pub Verdict : State → ℕ → Type 0
+  Verdict s w = ((i : ℕ) × Lives n s i × (rankAt s i .phase ≡ decided) × (rankAt s i .result ≡ w)) ⊎ ((b : ℕ) × (x : ℕ) × Arrives s b x w)
+
+  pub record Concord (s : State) : Type 0 where
+    pub report-leads : (x b : ℕ) → Flies s up x b → MayLead anc (s .group .dead) x b
+    pub heard-leads : (x b : ℕ) → b < n → has (rankAt s b .heard) x ≡ true → MayLead anc (s .group .dead) x b
+    pub owed-tells : (x b : ℕ) → b < n → has (rankAt s b .owed) x ≡ true → MayTell anc (s .group .dead) b x
+    pub down-tells : (b x : ℕ) → Flies s down b x → (b < n) × (rankAt s b .phase ≡ decided) × MayTell anc (s .group .dead) b x
+    pub covered-open : (y x : ℕ) → Lives n s y → (rankAt s y .phase ≡ decided → ⊥) → SpokenFor s y x → x < n → Open s x
+    pub one-result : (w w′ : ℕ) → Verdict s w → Verdict s w′ → w ≡ w′

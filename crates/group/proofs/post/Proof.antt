@@ -1,0 +1,14 @@
+-- `post` meets its contract. Assumes nothing.
+use borrow.Author.Needs.{needs}
+use Rattle.group.proofs.Laws.Stepping.{posted-list}
+use Rattle.group.proofs.post.Statement.{statement}
+use Rattle.group.proofs.post.Tie as tie
+
+forward-requires : tie.Need-forward-requires
+forward-requires c κs = search needs
+
+returns : tie.Need-returns
+returns c = search posted-list
+
+pub post-spec : {M : Type 1} → statement M
+post-spec = tie.close (tie.spec forward-requires returns)

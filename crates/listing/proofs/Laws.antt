@@ -1,0 +1,3 @@
+-- All that the crates above cite of a listing.
+pub mod Lines
+pub mod Reporting

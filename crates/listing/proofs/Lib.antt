@@ -1,0 +1,4 @@
+pub mod Laws
+pub mod Printing
+pub mod Determined
+pub mod Witnesses

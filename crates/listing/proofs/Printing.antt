@@ -1,0 +1,52 @@
+-- What the program prints is a matter of the file alone: the slice that it lends may hold anything. Assumes nothing.
+use mathlib.Core.Logic.{⊎-elim}
+use mathlib.Core.Path.{_≡_, refl, sym, ap, _∙_}
+use mathlib.Core.List.{List}
+use Prim.Native.Nat.{ℕ, zero, suc, _+_, _*_, _<_}
+use native.Mathlib.Omega.{arith}
+use lib.ListN.{length, getD}
+use borrow.Author.Tests.{eq-eqb, ne-eqb}
+use Rattle.sets.proofs.Laws.Bools.{eq-or-ne}
+use Rattle.tree.specs.Tree.{flat}
+use Rattle.state.specs.declared.State.{State}
+use Rattle.files.specs.Files.{eventsIn}
+use Rattle.schedule.specs.Runs.{run}
+use Rattle.schedule.proofs.Laws.Slices.{Agree, same-run}
+use Rattle.listing.specs.Listings.{eventLine, lines, listing, refusedLine, reportOf, report}
+
+lines-same : (f g : ℕ → List ℕ) (k : ℕ) → ((i : ℕ) → i < k → f i ≡ g i) → lines f k ≡ lines g k
+unfolding lines
+lines-same f g zero h = refl
+lines-same f g (suc k) h =
+    let e : lines f k ≡ lines g k = lines-same f g k (λ i l. h i (omega arith)) in
+    rw (e, h k (omega arith))
+
+line-same : (a b : List ℕ) (k : ℕ) → Agree a b (3 * k + 3) → eventLine a k ≡ eventLine b k
+unfolding eventLine
+line-same a b k h =
+    let x : getD a (3 * k) 0 ≡ getD b (3 * k) 0 = h (3 * k) (omega arith) in
+    let y : getD a (3 * k + 1) 0 ≡ getD b (3 * k + 1) 0 = h (3 * k + 1) (omega arith) in
+    let z : getD a (3 * k + 2) 0 ≡ getD b (3 * k + 2) 0 = h (3 * k + 2) (omega arith) in
+    rw (x, y, z)
+
+listing-same : (events : ℕ) (a b : List ℕ) (s t : State) → s ≡ t → Agree a b (3 * events) → listing events a s ≡ listing events b t
+unfolding listing
+listing-same events a b s t e h =
+    let l : lines (eventLine a) events ≡ lines (eventLine b) events = lines-same (eventLine a) (eventLine b) events (λ i m. line-same a b i (λ j k. h j (omega arith))) in
+    rw (e, l)
+
+-- What the program prints does not depend on what the slice held.
+pub report-of-the-file : (file a b : List ℕ) → length a ≡ length b → report flat file a ≡ report flat file b
+unfolding report reportOf
+report-of-the-file file a b e = ⊎-elim accepted refused (eq-or-ne (run flat file a .answer) 0)
+  where
+    accepted : run flat file a .answer ≡ 0 → report flat file a ≡ report flat file b
+    accepted z =
+        let s = same-run file a b e in
+        rw (eq-eqb (run flat file a .answer) 0 z, eq-eqb (run flat file b .answer) 0 (sym (s .answer-same) ∙ z))
+        (listing-same (eventsIn file) (run flat file a .answers) (run flat file b .answers) (run flat file a .state) (run flat file b .state) (s .state-same) (s .answers-same z))
+
+    refused : (run flat file a .answer ≡ 0 → ⊥) → report flat file a ≡ report flat file b
+    refused d =
+        let s = same-run file a b e in
+        rw (ne-eqb (run flat file a .answer) 0 d, ne-eqb (run flat file b .answer) 0 (λ z. d (s .answer-same ∙ z))) (ap refusedLine (s .answer-same))

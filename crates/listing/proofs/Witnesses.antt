@@ -1,0 +1,28 @@
+-- Each case of the list is what it says, by computation. Assumes nothing.
+use mathlib.Core.Path.{_≡_, refl}
+use mathlib.Core.Bool.{true}
+use Rattle.sets.specs.Sets.{has, only, union, meet, minus, add, below, setOf, count, largest, smallest, listed, every, all}
+use Rattle.tree.specs.Calls.{mended, movedBelow, mendedBelow, wrongSize, same, wrongView, markRefused, marked, told, climbing, climbed}
+use Rattle.tree.specs.Tree.{halvings, flat, parent, children, row, entry, fresh, moves, moved, upwards, path, links, reached, digits}
+use Rattle.rank.specs.Records.{becoming, combining, concluding, owing, parentOf, childrenOf, awaiting, freshRank, hearing, viewing}
+use Rattle.rank.specs.Rules.{inPhase, saying, deciding, settled, done, settling, entering, noting, raised, takingUp, lowered, takingDown, asked, takingAsk, renewing, regathering, orphaned, inheriting, bereaved, noticing}
+use Rattle.rank.specs.Sends.{silent, reports, tells, asks, letter, letters}
+use Rattle.rank.specs.Words.{combine}
+use Rattle.net.specs.Net.{joining, padded, without}
+use Rattle.refusals.specs.Refusing.{namesRank, namesPlace, wrongKind, wrongRank, noMessage, isDead, notOutside, isLiving, isLast, bothLive, lateRefusal, refusal}
+use Rattle.state.specs.Starting.{firstRank, firstRow, freshState, emptyState, started}
+use Rattle.order.specs.Order.{proper, clauses, rankInOrder, isWithin, memberInOrder, zeroRecord, strangerInOrder, seatInOrder, seatInOrderAt, messageInOrder, zeroPlace, placeInOrder, placeInOrderAt, inOrder}
+use Rattle.plans.specs.Plans.{subject, refusing, accepting, afterwards, fitting, delivered, acting, planned}
+use Rattle.group.specs.Events.{posted, applied, refused, carried, subjectOf, planOf, stepped, event}
+use Rattle.group.specs.Reaching.{tableBelow}
+use Rattle.text.specs.Text.{digitsOf, decimal, field, pasted}
+use Rattle.files.specs.Files.{byteAt, shortAt, numberAt, eventAt, eventsIn, wrongMark, wrongVersion, broken, header, numberOf}
+use Rattle.schedule.specs.Reaching.{eventOf}
+use Rattle.schedule.specs.Runs.{written, stepAt, played, refusedRun, acceptedRun, opened, run}
+use Rattle.schedule.specs.Samples.{then, file, three}
+use Rattle.listing.specs.Listings.{firstLine, eventLine, living, resultField, rankLine, lastLine, lines, rankLines, listing, refusedLine, reportOf, report}
+use Rattle.listing.specs.Witnesses.{threeListing, later, seen, goes, one, two, reporting, widowed, extinct, crowded, witnesses}
+
+pub nothing-is-vacuous : all witnesses ≡ true
+unfolding has only union meet minus add below setOf count largest smallest listed every all mended movedBelow mendedBelow wrongSize same wrongView markRefused marked told climbing climbed halvings flat parent children row entry fresh moves moved upwards path links reached digits proper clauses rankInOrder becoming combining concluding owing parentOf childrenOf awaiting freshRank hearing viewing inPhase saying deciding settled done settling entering noting raised takingUp lowered takingDown asked takingAsk renewing regathering orphaned inheriting bereaved noticing silent reports tells asks letter letters combine subject refusing accepting afterwards fitting delivered acting planned posted joining applied refused carried subjectOf planOf stepped padded without isWithin memberInOrder zeroRecord strangerInOrder seatInOrder seatInOrderAt messageInOrder zeroPlace placeInOrder placeInOrderAt inOrder event tableBelow namesRank namesPlace wrongKind wrongRank noMessage isDead notOutside isLiving isLast bothLive lateRefusal refusal firstRank firstRow freshState emptyState started byteAt shortAt numberAt eventAt eventsIn wrongMark wrongVersion broken header numberOf digitsOf decimal field firstLine eventLine living resultField rankLine lastLine lines rankLines listing refusedLine reportOf report eventOf written stepAt played refusedRun acceptedRun opened run then file three threeListing later seen goes one two reporting widowed extinct crowded witnesses pasted
+nothing-is-vacuous = refl

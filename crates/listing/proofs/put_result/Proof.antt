@@ -1,0 +1,40 @@
+-- `put_result` meets its contract: one test. Assumes nothing.
+use native.Mathlib.Omega.{arith}
+use borrow.Author.Needs.{needs}
+use Rattle.text.proofs.Laws.Writing.{wrote-room}
+use Rattle.listing.proofs.Laws.Lines.{result-decided, result-dash}
+use Rattle.listing.proofs.put_result.Statement.{statement}
+use Rattle.listing.proofs.put_result.Tie as tie
+
+put-field-requires : tie.Need-put-field-requires
+put-field-requires c κs = search needs
+
+same-length : tie.Need-same-length
+same-length c = search needs
+
+returns : tie.Need-returns
+returns c = search result-decided
+
+put-byte-requires : tie.Need-put-byte-requires
+put-byte-requires c κs = search needs
+
+put-byte-requires-2 : tie.Need-put-byte-requires-2
+put-byte-requires-2 c κs = omega (arith, wrote-room 1 10 (c .before .before .before .put-byte .ensures) (omega arith) (c .before .before .before .before .before .before .before .pre))
+
+same-length-2 : tie.Need-same-length-2
+same-length-2 c = search needs
+
+returns-2 : tie.Need-returns-2
+returns-2 c = search result-dash
+
+pub put-result-spec : {M : Type 1} → statement M
+put-result-spec =
+    tie.close
+    (tie.spec
+    put-field-requires
+    same-length
+    returns
+    put-byte-requires
+    put-byte-requires-2
+    same-length-2
+    returns-2)

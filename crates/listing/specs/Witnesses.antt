@@ -1,0 +1,159 @@
+-- No promise is empty: for each refusal number a state, an event or a file that gets it, and for each rule an accepted event that uses
+-- it, as one list of tests.
+use Prim.Native.Nat.{ℕ}
+use mathlib.Core.Bool.{Bool, _&&_}
+use mathlib.Core.List.{List, [], _∷_}
+use lib.Dec.{eqb}
+use lib.ListN.{replicate}
+use Rattle.sets.specs.Sets.{has}
+use Rattle.tree.specs.Tree.{flat, fresh}
+use Rattle.tree.specs.Calls.{same, marked, climbed}
+use Rattle.rank.specs.declared.Rank.{Rank}
+use Rattle.net.specs.Net.{inFlight}
+use Rattle.state.specs.declared.State.{State}
+use Rattle.state.specs.States.{joined, rankAt}
+use Rattle.state.specs.Starting.{emptyState, started}
+use Rattle.group.specs.Events.{event}
+use Rattle.files.specs.Files.{header, numberOf}
+use Rattle.schedule.specs.Runs.{stepAt, played, run}
+use Rattle.schedule.specs.Samples.{then, file, three}
+use Rattle.listing.specs.Listings.{report}
+
+unfoldable pub threeListing : List ℕ
+threeListing =
+    -- agr 1 3 12
+    97 ∷ 103 ∷ 114 ∷ 32 ∷ 49 ∷ 32 ∷ 51 ∷ 32 ∷ 49 ∷ 50 ∷ 10 ∷
+    -- 0 0 1 0
+    48 ∷ 32 ∷ 48 ∷ 32 ∷ 49 ∷ 32 ∷ 48 ∷ 10 ∷
+    -- 1 0 0 0
+    49 ∷ 32 ∷ 48 ∷ 32 ∷ 48 ∷ 32 ∷ 48 ∷ 10 ∷
+    -- 2 0 0 0
+    50 ∷ 32 ∷ 48 ∷ 32 ∷ 48 ∷ 32 ∷ 48 ∷ 10 ∷
+    -- 3 0 1 0
+    51 ∷ 32 ∷ 48 ∷ 32 ∷ 49 ∷ 32 ∷ 48 ∷ 10 ∷
+    -- 4 0 1 0
+    52 ∷ 32 ∷ 48 ∷ 32 ∷ 49 ∷ 32 ∷ 48 ∷ 10 ∷
+    -- 5 0 0 0
+    53 ∷ 32 ∷ 48 ∷ 32 ∷ 48 ∷ 32 ∷ 48 ∷ 10 ∷
+    -- 6 0 1 1
+    54 ∷ 32 ∷ 48 ∷ 32 ∷ 49 ∷ 32 ∷ 49 ∷ 10 ∷
+    -- 7 0 0 0
+    55 ∷ 32 ∷ 48 ∷ 32 ∷ 48 ∷ 32 ∷ 48 ∷ 10 ∷
+    -- 8 0 1 1
+    56 ∷ 32 ∷ 48 ∷ 32 ∷ 49 ∷ 32 ∷ 49 ∷ 10 ∷
+    -- 9 0 1 0
+    57 ∷ 32 ∷ 48 ∷ 32 ∷ 49 ∷ 32 ∷ 48 ∷ 10 ∷
+    -- 10 0 1 0
+    49 ∷ 48 ∷ 32 ∷ 48 ∷ 32 ∷ 49 ∷ 32 ∷ 48 ∷ 10 ∷
+    -- 11 8 0 0
+    49 ∷ 49 ∷ 32 ∷ 56 ∷ 32 ∷ 48 ∷ 32 ∷ 48 ∷ 10 ∷
+    -- r 0 0 3 4
+    114 ∷ 32 ∷ 48 ∷ 32 ∷ 48 ∷ 32 ∷ 51 ∷ 32 ∷ 52 ∷ 10 ∷
+    -- r 1 1 3 6
+    114 ∷ 32 ∷ 49 ∷ 32 ∷ 49 ∷ 32 ∷ 51 ∷ 32 ∷ 54 ∷ 10 ∷
+    -- r 2 1 3 6
+    114 ∷ 32 ∷ 50 ∷ 32 ∷ 49 ∷ 32 ∷ 51 ∷ 32 ∷ 54 ∷ 10 ∷
+    -- m 1
+    109 ∷ 32 ∷ 49 ∷ 10 ∷
+    []
+
+-- ---- states
+
+-- The example after its first k events, and its rank i.
+unfoldable pub later : ℕ → State
+later k = played flat three k 0 (started flat 3 .state) [] .state
+
+unfoldable pub seen : ℕ → ℕ → Rank
+seen k i = rankAt (later k) i
+
+-- Event k of the example is accepted.
+unfoldable pub goes : ℕ → Bool
+goes k = eqb (stepAt flat three k (later k) .answer) 0
+
+unfoldable pub one : State
+one = started flat 1 .state
+
+unfoldable pub two : State
+two = started flat 2 .state
+
+-- rank 1 of two has entered, and its UP is in flight; it has crashed
+unfoldable pub reporting : State
+reporting = event flat two 1 1 5 .state
+
+unfoldable pub widowed : State
+widowed = event flat reporting 3 1 0 .state
+
+-- nobody lives; and 128 messages are in flight
+unfoldable pub extinct : State
+extinct = joined (record { n = 1; dead = 1; count = 0; ranks = one .group .ranks; net = one .group .net }) (one .tables)
+
+unfoldable pub crowded : State
+crowded =
+    joined
+    (record {
+      n = 2;
+      dead = 0;
+      count = inFlight;
+      ranks = two .group .ranks;
+      net = replicate inFlight (record { kind = 1; from = 1; to = 0; word = 0 });
+    })
+    (two .tables)
+
+unfoldable pub witnesses : List Bool
+witnesses =
+    -- 1: a start, an event, a mark, a climb and a file
+    eqb (started flat 0 .answer) 1 ∷ eqb (event flat emptyState 1 0 0 .answer) 1 ∷ eqb (marked flat 65 0 [] 0 .answer) 1
+    ∷ eqb (climbed flat 0 0 0 0 .number) 1
+    ∷ eqb (numberOf (header (file 65 []))) 1
+    -- 2: an event, and a mark of a view that has marks outside the group
+    ∷ eqb (event flat extinct 1 0 0 .answer) 2
+    ∷ eqb (marked flat 2 4 (fresh flat 2 4) 0 .answer) 2
+    -- 3: no such kind; a delivery with b
+    ∷ eqb (event flat two 6 0 0 .answer) 3
+    ∷ eqb (event flat reporting 2 0 1 .answer) 3
+    -- 4: an event, a mark and a climb
+    ∷ eqb (event flat two 1 2 0 .answer) 4
+    ∷ eqb (marked flat 2 0 (fresh flat 2 0) 2 .answer) 4
+    ∷ eqb (climbed flat 2 0 2 0 .number) 4
+    -- 5
+    ∷ eqb (event flat two 2 0 0 .answer) 5
+    -- 6: an event and a climb
+    ∷ eqb (event flat widowed 1 1 0 .answer) 6
+    ∷ eqb (climbed flat 2 2 1 9 .number) 6
+    -- 7 to 12
+    ∷ eqb (event flat reporting 1 1 5 .answer) 7
+    ∷ eqb (event flat two 4 0 1 .answer) 8
+    ∷ eqb (event flat one 3 0 0 .answer) 9
+    ∷ eqb (event flat reporting 5 0 0 .answer) 10
+    ∷ eqb (event flat crowded 1 1 0 .answer) 11
+    ∷ eqb (climbed flat 64 0 63 5 .number) 12
+    -- 20 to 25
+    ∷ eqb (numberOf (header [])) 20
+    ∷ eqb (numberOf (header (65 ∷ 71 ∷ 83 ∷ 1 ∷ 0 ∷ 1 ∷ []))) 21
+    ∷ eqb (numberOf (header (65 ∷ 71 ∷ 82 ∷ 1 ∷ 1 ∷ 1 ∷ []))) 22
+    ∷ eqb (numberOf (header (file 1 (0 ∷ [])))) 23
+    ∷ eqb (numberOf (header (file 1 (replicate 36865 0)))) 24
+    ∷ eqb (run flat (file 1 (then 1 0 9 [])) [] .answer) 25
+    -- the last unmarked rank may be marked
+    ∷ eqb (marked flat 1 0 (fresh flat 1 0) 0 .answer) 0
+    -- Enter, with settle: rank 2 reports and waits.
+    ∷ (goes 0 && eqb (seen 1 2 .phase) 2)
+    -- UP: rank 1 has heard rank 2, and owes it.
+    ∷ (goes 3 && has (seen 4 1 .heard) 2 && has (seen 4 1 .owed) 2)
+    -- Decide: the root has heard its child, and settles on 4.
+    ∷ (goes 4 && eqb (seen 5 0 .phase) 3 && eqb (seen 5 0 .result) 4)
+    -- A crash: rank 0 is dead.
+    ∷ (goes 5 && has (later 6 .group .dead) 0)
+    -- Notice: rank 1 marks its parent, becomes root and gathers again.
+    ∷ (goes 6 && has (seen 7 1 .marks) 0 && eqb (seen 7 1 .phase) 1)
+    -- A message from a marked sender is dropped: rank 1 goes on gathering.
+    ∷ (goes 7 && eqb (seen 8 1 .phase) 1)
+    -- ASK: rank 2 marks rank 0, owes rank 1, and reports to it.
+    ∷ (goes 8 && has (seen 9 2 .marks) 0 && has (seen 9 2 .owed) 1 && eqb (seen 9 2 .phase) 2)
+    -- DOWN: rank 2 decides 6.
+    ∷ (goes 10 && eqb (seen 11 2 .phase) 3 && eqb (seen 11 2 .result) 6)
+    -- A lost message.
+    ∷ eqb (event flat widowed 5 0 0 .answer) 0
+    -- The whole example prints its listing.
+    ∷ same (report flat three (replicate 36 0)) threeListing
+    ∷ []

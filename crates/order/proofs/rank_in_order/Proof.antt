@@ -1,0 +1,49 @@
+-- `rank_in_order` meets its contract: a wrong table, or every other clause by its test. Assumes nothing.
+use borrow.Author.Needs.{needs}
+use Rattle.tree.proofs.Laws.Calls.{checked-fresh}
+use Rattle.order.proofs.Laws.Ranks.{unfresh, tested}
+use Rattle.order.proofs.rank_in_order.Statement.{statement}
+use Rattle.order.proofs.rank_in_order.Tie as tie
+
+fresh-requires : tie.Need-fresh-requires
+fresh-requires c κs = search needs
+
+same-requires : tie.Need-same-requires
+same-requires c κs = search needs
+
+returns : tie.Need-returns
+returns c = search unfresh
+
+array-read-parent : tie.Need-array-read-parent
+array-read-parent c = search needs
+
+children-of-requires : tie.Need-children-of-requires
+children-of-requires c κs = (search needs, checked-fresh _ _ _ _ _ _ (c .before .before .fresh .ensures) (c .before .same .ensures) (c .if1 .left))
+
+minus-requires : tie.Need-minus-requires
+minus-requires c κs = search needs
+
+sets-proper-requires : tie.Need-sets-proper-requires
+sets-proper-requires c κs = search needs
+
+returns-2 : tie.Need-returns-2
+returns-2 c =
+    let proper = c .before .before in
+    let awaited = proper .before .before .before .before .before .before in
+    let children = awaited .before in
+    let fresh = children .before in
+    let pre = fresh .before .before .before .pre in
+    tested _ _ _ _ _ _ _ _ _ _ (pre .0) (pre .1) (fresh .before .before .fresh .ensures) (fresh .before .same .ensures) (fresh .if1 .left) (children .children-of .ensures) (awaited .minus .ensures) (proper .sets-proper .ensures)
+
+pub rank-in-order-spec : {M : Type 1} → statement M
+rank-in-order-spec =
+    tie.close
+    (tie.spec
+    fresh-requires
+    same-requires
+    returns
+    array-read-parent
+    children-of-requires
+    minus-requires
+    sets-proper-requires
+    returns-2)

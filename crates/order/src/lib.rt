@@ -1,0 +1,188 @@
+// Whether a state handed in is in order.
+use rank::ASK;
+use rank::DECIDED;
+use rank::GATHERING;
+use rank::Message;
+use rank::Rank;
+use rank::UP;
+use rank::WAITING;
+use state::State;
+ghost use mathlib.Core.Path.{_≡_};
+ghost use mathlib.Core.Bool.{_&&_};
+ghost use mathlib.Core.List.{[]};
+ghost use Prim.Native.Nat.{_<_, _≤_};
+ghost use lib.ListN.{getD, length};
+ghost use Rattle.sets.specs.Sets.{every};
+ghost use Rattle.tree.specs.Tree.{flat};
+ghost use Rattle.net.specs.Net.{zeroMessage};
+ghost use Rattle.state.specs.States.{zeroRank};
+ghost use Rattle.order.specs.Order.{isWithin, memberInOrder, messageInOrder, placeInOrder, inOrder, proper, rankInOrder, seatInOrder, strangerInOrder, zeroPlace, zeroRecord};
+ghost use Rattle.order.specs.Between.{Shaped};
+
+// Whether a set lies within another.
+fn is_within(w: u64, bound: u64) -> bool
+    ensures { λ t. ⌜ t ≡ isWithin w bound ⌝ }
+{
+    sets::minus(w, bound) == 0
+}
+
+// Whether a set lies within n and leaves out its own rank.
+fn proper(n: u8, me: u8, w: u64) -> bool
+    requires { ⌜ n ≤ 64 ⌝ }
+    requires { ⌜ me < n ⌝ }
+    ensures { λ t. ⌜ t ≡ proper n me w ⌝ }
+{
+    is_within(w, sets::below(n)) & !sets::member(w, me)
+}
+
+// Whether the four sets of a rank are proper.
+fn sets_proper(n: u8, me: u8, r: Rank) -> bool
+    requires { ⌜ n ≤ 64 ⌝ }
+    requires { ⌜ me < n ⌝ }
+    ensures { λ t. ⌜ t ≡ proper n me (r .marks) && proper n me (r .heard) && proper n me (r .awaited) && proper n me (r .owed) ⌝ }
+{
+    proper(n, me, r.marks)
+        & proper(n, me, r.heard)
+        & proper(n, me, r.awaited)
+        & proper(n, me, r.owed)
+}
+
+// One rank: its record and its row.
+fn rank_in_order(n: u8, me: u8, r: Rank, row: [u8; 64]) -> bool
+    requires { ⌜ n ≤ 64 ⌝ }
+    requires { ⌜ me < n ⌝ }
+    ensures { λ t. ⌜ t ≡ rankInOrder flat n me r row ⌝ }
+{
+    if !tree::same(row, tree::fresh(n, r.marks)) {
+        return false;
+    }
+    let parent = row[me as usize];
+    let awaited = sets::minus(tree::children_of(n, r.marks, row, me), r.heard);
+    let gathers = !(r.phase == GATHERING) | !(r.awaited == 0);
+    let waits = !(r.phase == WAITING) | !(parent == sets::NONE);
+    let unless = (r.phase == DECIDED) | (r.result == 0);
+    sets_proper(n, me, r) & (r.awaited == awaited) & gathers & waits & unless & (r.phase <= DECIDED)
+}
+
+// A rank of the group.
+fn member_in_order(n: u8, dead: u64, i: u8, r: Rank, row: [u8; 64]) -> bool
+    requires { ⌜ n ≤ 64 ⌝ }
+    requires { ⌜ i < n ⌝ }
+    ensures { λ t. ⌜ t ≡ memberInOrder flat n dead i r row ⌝ }
+{
+    rank_in_order(n, i, r, row) & is_within(r.marks, dead)
+}
+
+// A record past the group.
+fn zero_record(r: Rank) -> bool
+    ensures { λ t. ⌜ t ≡ zeroRecord r ⌝ }
+{
+    (r.phase == 0)
+        & (r.marks == 0)
+        & (r.heard == 0)
+        & (r.awaited == 0)
+        & (r.owed == 0)
+        & (r.word == 0)
+        & (r.result == 0)
+}
+
+fn stranger_in_order(r: Rank, row: [u8; 64]) -> bool
+    ensures { λ t. ⌜ t ≡ strangerInOrder r row ⌝ }
+{
+    zero_record(r) & tree::same(row, [sets::NONE; 64])
+}
+
+// The record and row of a place among the ranks.
+fn seat_in_order(n: u8, dead: u64, i: u8, r: Rank, row: [u8; 64]) -> bool
+    requires { ⌜ n ≤ 64 ⌝ }
+    ensures { λ t. ⌜ t ≡ seatInOrder flat n dead i r row ⌝ }
+{
+    if i < n {
+        return member_in_order(n, dead, i, r, row);
+    }
+    stranger_in_order(r, row)
+}
+
+// All 64 records and rows.
+fn seats_in_order(n: u8, dead: u64, ranks: [Rank; 64], tables: [[u8; 64]; 64]) -> bool
+    requires { ⌜ n ≤ 64 ⌝ }
+    ensures { λ t. ⌜ t ≡ every (λ i. seatInOrder flat n dead i (getD ranks i zeroRank) (getD tables i [])) 64 ⌝ }
+    ensures { λ t. ⌜ length ranks ≡ 64 ⌝ }
+    ensures { λ t. ⌜ length tables ≡ 64 ⌝ }
+{
+    let mut i: u8 = 0;
+    while i < 64 {
+        if !seat_in_order(n, dead, i, ranks[i as usize], tables[i as usize]) {
+            return false;
+        }
+        i += 1;
+    }
+    true
+}
+
+// A message in flight.
+fn message_in_order(n: u8, dead: u64, m: Message) -> bool
+    requires { ⌜ n ≤ 64 ⌝ }
+    ensures { λ t. ⌜ t ≡ messageInOrder n dead m ⌝ }
+{
+    if n <= m.from {
+        return false;
+    }
+    let low = is_within(sets::below(m.from), dead);
+    (m.to < n)
+        & !(m.from == m.to)
+        & (UP <= m.kind)
+        & (m.kind <= ASK)
+        & (!(m.kind == ASK) | (m.word == 0))
+        & (!(m.kind == ASK) | low)
+}
+
+// A place after the last.
+fn zero_place(m: Message) -> bool
+    ensures { λ t. ⌜ t ≡ zeroPlace m ⌝ }
+{
+    (m.kind == 0) & (m.from == 0) & (m.to == 0) & (m.word == 0)
+}
+
+// One of the 128 places.
+fn place_in_order(n: u8, dead: u64, count: u8, i: u8, m: Message) -> bool
+    requires { ⌜ n ≤ 64 ⌝ }
+    ensures { λ t. ⌜ t ≡ placeInOrder n dead count i m ⌝ }
+{
+    if i < count {
+        return message_in_order(n, dead, m);
+    }
+    zero_place(m)
+}
+
+// All 128 places.
+fn places_in_order(n: u8, dead: u64, count: u8, net: [Message; 128]) -> bool
+    requires { ⌜ n ≤ 64 ⌝ }
+    ensures { λ t. ⌜ t ≡ every (λ i. placeInOrder n dead count i (getD net i zeroMessage)) 128 ⌝ }
+    ensures { λ t. ⌜ length net ≡ 128 ⌝ }
+{
+    let mut i: u8 = 0;
+    while i < 128 {
+        if !place_in_order(n, dead, count, i, net[i as usize]) {
+            return false;
+        }
+        i += 1;
+    }
+    true
+}
+
+// Whether a state whose size is right is in order.
+pub fn in_order(s: State) -> bool
+    requires { ⌜ s .group .n ≤ 64 ⌝ }
+    requires { ⌜ 0 < s .group .n ⌝ }
+    ensures { λ t. ⌜ t ≡ inOrder flat s ⌝ }
+    ensures { λ t. ⌜ Shaped s ⌝ }
+{
+    let g = s.group;
+    let all = sets::below(g.n);
+    let ranks = g.ranks;
+    let net = g.net;
+    let seats = seats_in_order(g.n, g.dead, ranks, state::tables_of(s));
+    let places = places_in_order(g.n, g.dead, g.count, net);
+    !(sets::minus(all, g.dead) == 0) & is_within(g.dead, all) & (g.count <= 128) & seats & places
+}

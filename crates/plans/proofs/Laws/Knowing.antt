@@ -1,0 +1,66 @@
+-- Which deaths a rank knows after what an event has it do, and how many ranks that moves: a notice adds one death, an ASK that is taken every
+-- rank below its sender, and nothing else adds any or moves a rank. Over any ancestor sets. Assumes nothing.
+use mathlib.Core.Path.{_≡_, refl}
+use mathlib.Core.List.{List}
+use mathlib.Core.Logic.{_⊎_, inl, inr, ⊎-elim}
+use Prim.Native.Nat.{ℕ}
+use native.Mathlib.Omega.{arith}
+use Rattle.sets.specs.Sets.{has, add, union, below}
+use Rattle.sets.proofs.Laws.Bools.{clash}
+use Rattle.tree.specs.Tree.{moved}
+use Rattle.tree.specs.Calls.{movedBelow}
+use Rattle.rank.specs.declared.Rank.{Rank}
+use Rattle.rank.specs.declared.Message.{Message}
+use Rattle.rank.specs.declared.Acted.{Acted}
+use Rattle.rank.specs.Words.{up, down, ask}
+use Rattle.rank.specs.Rules.{takingAsk}
+use Rattle.rank.proofs.Laws.Knowing.{enter-marks, up-marks, down-marks, ask-marks, notice-marks, enter-moved, up-moved, down-moved, ask-moved, notice-moved}
+use Rattle.plans.specs.Plans.{delivered, acting}
+use Rattle.plans.proofs.Laws.Cases.{Dropped, Undropped, delivered-by, acting-by}
+
+-- no death is learnt and no rank moves
+abbrev Calm : Rank → Acted → Type 0
+Calm r a = (a .rank .marks ≡ r .marks) × (a .moved ≡ 0)
+
+module _ (anc : ℕ → ℕ) (n dead b : ℕ) (m : Message) (me : ℕ) (r : Rank) (row : List ℕ) where
+  -- ---- a notice
+
+  acting-notice : (P : Acted → Type 0) → P (Rattle.rank.specs.Rules.noticing anc n me b r) → P (acting anc n dead 4 b m me r row)
+  acting-notice P h = acting-by anc n dead me m r row P 4 b (λ e. absurd (omega arith)) (λ e. absurd (omega arith)) (λ e. h) (λ x y z. absurd (z refl))
+
+  pub notice-knows : acting anc n dead 4 b m me r row .rank .marks ≡ add (r .marks) b
+  notice-knows = acting-notice (λ a. a .rank .marks ≡ add (r .marks) b) (notice-marks anc n me b r)
+
+  pub notice-moves : acting anc n dead 4 b m me r row .moved ≡ moved anc n (r .marks) b
+  notice-moves = acting-notice (λ a. a .moved ≡ moved anc n (r .marks) b) (notice-moved anc n me b r)
+
+  -- ---- a delivery
+
+  acting-delivery : (P : Acted → Type 0) → P (delivered anc n dead me m r row) → P (acting anc n dead 2 b m me r row)
+  acting-delivery P h = acting-by anc n dead me m r row P 2 b (λ e. absurd (omega arith)) (λ e. h) (λ e. absurd (omega arith)) (λ x y z. absurd (y refl))
+
+  kept : Undropped dead me m r → Dropped dead me m r → ⊥
+  kept t (inl d) = clash (has dead me) d (t .lives)
+  kept t (inr d) = clash (has (r .marks) (m .from)) d (t .unmarked)
+
+  acting-taken : (P : Acted → Type 0) → m .kind ≡ ask → Undropped dead me m r → P (takingAsk anc n me (m .from) r) → P (acting anc n dead 2 b m me r row)
+  acting-taken P k t h = acting-delivery P (delivered-by anc n dead me m r row P (λ d. absurd (kept t d)) (λ x e. absurd (omega arith)) (λ x e. absurd (omega arith)) (λ x u d. h))
+
+  pub ask-knows : m .kind ≡ ask → Undropped dead me m r → acting anc n dead 2 b m me r row .rank .marks ≡ union (r .marks) (below (m .from))
+  ask-knows k t = acting-taken (λ a. a .rank .marks ≡ union (r .marks) (below (m .from))) k t (ask-marks anc n me (m .from) r)
+
+  pub ask-moves : m .kind ≡ ask → Undropped dead me m r → acting anc n dead 2 b m me r row .moved ≡ movedBelow anc n (r .marks) (m .from)
+  ask-moves k t = acting-taken (λ a. a .moved ≡ movedBelow anc n (r .marks) (m .from)) k t (ask-moved anc n me (m .from) r)
+
+  -- a message to a dead rank, or from a sender that the receiver has marked
+  pub dropped-calm : Dropped dead me m r → Calm r (acting anc n dead 2 b m me r row)
+  dropped-calm d = acting-delivery (Calm r) (delivered-by anc n dead me m r row (Calm r) (λ x. (refl, refl)) (λ t e. absurd (kept t d)) (λ t e. absurd (kept t d)) (λ t u v. absurd (kept t d)))
+
+  delivered-calm : (m .kind ≡ up) ⊎ (m .kind ≡ down) → Calm r (delivered anc n dead me m r row)
+  delivered-calm k = delivered-by anc n dead me m r row (Calm r) (λ x. (refl, refl)) (λ t e. (up-marks anc n me (m .from) (m .word) r, up-moved anc n me (m .from) (m .word) r)) (λ t e. (down-marks anc n me (m .word) r, down-moved anc n me (m .word) r))
+      (λ t u v. absurd (⊎-elim u v k))
+
+  -- ---- any other event
+
+  pub other-calm : (kind : ℕ) → (kind ≡ 4 → ⊥) → (kind ≡ 2 → (m .kind ≡ up) ⊎ (m .kind ≡ down)) → Calm r (acting anc n dead kind b m me r row)
+  other-calm kind h k = acting-by anc n dead me m r row (Calm r) kind b (λ e. (enter-marks anc n me b r, enter-moved anc n me b r)) (λ e. delivered-calm (k e)) (λ e. absurd (h e)) (λ x y z. (refl, refl))

@@ -1,0 +1,143 @@
+// The plan of an event: what it will change, decided from one rank's record and row and the message at the place.
+use rank::Acted;
+use rank::DOWN;
+use rank::Message;
+use rank::Rank;
+use rank::Send;
+use rank::UP;
+ghost use mathlib.Core.Path.{_≡_};
+ghost use mathlib.Core.Bool.{cond};
+ghost use Prim.Native.Nat.{_+_, _-_, _<_};
+ghost use Rattle.tree.specs.Tree.{flat};
+ghost use Rattle.plans.specs.Plans.{acting, delivered, idle, planned, refusing, subject};
+ghost use Rattle.plans.specs.Between.{FreshSubject};
+
+// What an event will change: whether its message leaves, whether its rank dies, and what that rank does.
+pub struct Plan {
+    pub answer: u32,
+    pub leaves: bool,
+    pub dies: bool,
+    pub acted: Acted,
+}
+
+// A rank that does nothing.
+fn idle(r: Rank, row: [u8; 64]) -> Acted
+    ensures { λ t. ⌜ t ≡ idle r row ⌝ }
+{
+    Acted {
+        rank: r,
+        row,
+        first: Send::silent(),
+        second: Send::silent(),
+        moved: 0,
+    }
+}
+
+// The rank that an event is about.
+pub fn subject(n: u8, kind: u32, a: u32, m: Message) -> u8
+    ensures { λ t. ⌜ t ≡ subject n kind a m ⌝ }
+{
+    if refusals::names_place(kind) {
+        return m.to;
+    }
+    if a < (n as u32) {
+        return a as u8;
+    }
+    0
+}
+
+// A message reaches its receiver.
+fn deliver(n: u8, dead: u64, m: Message, me: u8, r: Rank, row: [u8; 64]) -> Acted
+    requires { ⌜ FreshSubject flat n m me r row ⌝ }
+    ensures { λ t. ⌜ t ≡ delivered flat n dead me m r row ⌝ }
+{
+    if sets::member(dead, me) | sets::member(r.marks, m.from) {
+        return idle(r, row);
+    }
+    if m.kind == UP {
+        return r.up(n, me, row, m.from, m.word);
+    }
+    if m.kind == DOWN {
+        return r.down(n, me, row, m.word);
+    }
+    r.ask(n, me, row, m.from)
+}
+
+// What the event has its rank do.
+fn act(n: u8, dead: u64, kind: u32, b: u32, m: Message, me: u8, r: Rank, row: [u8; 64]) -> Acted
+    requires { ⌜ FreshSubject flat n m me r row ⌝ }
+    requires { ⌜ (kind ≡ 4 → b < n) ⌝ }
+    ensures { λ t. ⌜ t ≡ acting flat n dead kind b m me r row ⌝ }
+{
+    if kind == refusals::ENTERS {
+        return r.enter(n, me, row, b);
+    }
+    if kind == refusals::DELIVERS {
+        return deliver(n, dead, m, me, r, row);
+    }
+    if kind == refusals::NOTICES {
+        return r.notice(n, me, row, b as u8);
+    }
+    idle(r, row)
+}
+
+// How many are in flight once a message has left and the sends have joined.
+fn afterwards(count: u8, first: u8, second: u8, leaves: bool) -> u32
+    ensures { λ t. ⌜ t ≡ count + first + second - cond leaves 1 0 ⌝ }
+{
+    let total = count as u32 + first as u32 + second as u32;
+    if !leaves {
+        return total;
+    }
+    if total == 0 {
+        return 0;
+    }
+    total - 1
+}
+
+// A refusal plans nothing.
+fn refuse(answer: u32, r: Rank, row: [u8; 64]) -> Plan
+    ensures { λ t. ⌜ t ≡ refusing answer r row ⌝ }
+{
+    Plan {
+        answer,
+        leaves: false,
+        dies: false,
+        acted: idle(r, row),
+    }
+}
+
+// Decides what an event does, from one rank's record and row and the message at the place.
+pub fn plan_event(
+    n: u8,
+    dead: u64,
+    count: u8,
+    kind: u32,
+    a: u32,
+    b: u32,
+    m: Message,
+    me: u8,
+    r: Rank,
+    row: [u8; 64],
+) -> Plan
+    requires { ⌜ FreshSubject flat n m me r row ⌝ }
+    ensures { λ t. ⌜ t ≡ planned flat n dead count kind a b m me r row ⌝ }
+{
+    let number = refusals::refusal(n, dead, count, kind, a, b, r, m);
+    if number != 0 {
+        return refuse(number, r, row);
+    }
+    let acted = act(n, dead, kind, b, m, me, r, row);
+    let first = acted.first;
+    let second = acted.second;
+    let leaves = refusals::names_place(kind);
+    if 128 < afterwards(count, sets::size(first.to), sets::size(second.to), leaves) {
+        return refuse(11, r, row);
+    }
+    Plan {
+        answer: 0,
+        leaves,
+        dies: kind == refusals::CRASHES,
+        acted,
+    }
+}

@@ -1,0 +1,31 @@
+-- Closed tests: how a schedule file is spelt out, and document 01's example.
+use Prim.Native.Nat.{ℕ}
+use mathlib.Core.List.{List, [], _∷_}
+
+-- ---- files
+
+-- An event of small numbers, in front of what follows it.
+unfoldable pub then : ℕ → ℕ → ℕ → List ℕ → List ℕ
+then kind a b rest = kind ∷ a ∷ 0 ∷ 0 ∷ 0 ∷ b ∷ 0 ∷ 0 ∷ 0 ∷ rest
+
+-- A file of n ranks with these bytes after its first six.
+unfoldable pub file : ℕ → List ℕ → List ℕ
+file n rest = 65 ∷ 71 ∷ 82 ∷ 1 ∷ 0 ∷ n ∷ rest
+
+-- Document 01's example, and the listing that it prints.
+unfoldable pub three : List ℕ
+three =
+    file 3
+    (then 1 2 7
+    (then 1 1 6
+    (then 1 0 5
+    (then 2 0 0
+    (then 2 0 0
+    (then 3 0 0
+    (then 4 1 0
+    (then 2 0 0
+    (then 2 0 0
+    (then 2 0 0
+    (then 2 0 0
+    (then 4 2 1
+    []))))))))))))

@@ -1,0 +1,28 @@
+-- A state: the group record, and beside it the tables, one row of 64 parent numbers for each rank's view.
+use Prim.Native.Nat.{ℕ}
+use mathlib.Core.List.{List, []}
+use lib.ListN.{getD, take}
+use Rattle.rank.specs.declared.Rank.{Rank}
+use Rattle.rank.specs.declared.Message.{Message}
+use Rattle.net.specs.Net.{zeroMessage}
+use Rattle.state.specs.declared.Group.{Group}
+use Rattle.state.specs.declared.State.{State}
+
+abbrev pub zeroRank : Rank
+zeroRank = record { phase = 0; marks = 0; heard = 0; awaited = 0; owed = 0; word = 0; result = 0 }
+
+abbrev pub joined : Group → List (List ℕ) → State
+joined g t = record { group = g; tables = t }
+
+-- The record and the row of rank i, the message at place i, and the messages in flight.
+abbrev pub rankAt : State → ℕ → Rank
+rankAt s i = getD (s .group .ranks) i zeroRank
+
+abbrev pub rowAt : State → ℕ → List ℕ
+rowAt s i = getD (s .tables) i []
+
+abbrev pub placeAt : State → ℕ → Message
+placeAt s i = getD (s .group .net) i zeroMessage
+
+abbrev pub flying : State → List Message
+flying s = take (s .group .count) (s .group .net)

@@ -1,0 +1,119 @@
+// A state: the group record with the tables beside it. The entry point for callers is start; it refuses bad input and requires nothing.
+use rank::Message;
+use rank::Rank;
+ghost use mathlib.Core.Path.{_≡_};
+ghost use Prim.Native.Nat.{_≤_};
+ghost use Rattle.tree.specs.Tree.{flat, fresh, row};
+ghost use Rattle.state.specs.States.{joined, zeroRank};
+ghost use Rattle.state.specs.Starting.{firstRank, firstRow, started};
+
+// The group record: its size, the dead, the messages in flight and the ranks.
+pub struct Group {
+    pub n: u8,
+    pub dead: u64,
+    pub count: u8,
+    pub ranks: [Rank; 64],
+    pub net: [Message; 128],
+}
+
+// The group record with the tables beside it, one row for each rank's view.
+pub struct State {
+    pub group: Group,
+    pub tables: [[u8; 64]; 64],
+}
+
+// The answer of start.
+pub struct Started {
+    pub answer: u32,
+    pub state: State,
+}
+
+// The two parts of a state: put together, and the tables taken out.
+pub fn join(group: Group, tables: [[u8; 64]; 64]) -> State
+    ensures { λ r. ⌜ r ≡ joined group tables ⌝ }
+{
+    State { group, tables }
+}
+
+pub fn tables_of(s: State) -> [[u8; 64]; 64]
+    ensures { λ r. ⌜ r ≡ s .tables ⌝ }
+{
+    s.tables
+}
+
+// A record past the group.
+fn no_rank() -> Rank
+    ensures { λ r. ⌜ r ≡ zeroRank ⌝ }
+{
+    Rank {
+        phase: 0,
+        marks: 0,
+        heard: 0,
+        awaited: 0,
+        owed: 0,
+        word: 0,
+        result: 0,
+    }
+}
+
+// The records of n fresh ranks.
+fn first_ranks(n: u8, table: [u8; 64]) -> [Rank; 64]
+    requires { ⌜ n ≤ 64 ⌝ }
+    requires { ⌜ table ≡ fresh flat n 0 ⌝ }
+    ensures { λ r. ⌜ r ≡ row (firstRank flat n) 64 ⌝ }
+{
+    let mut ranks = [no_rank(); 64];
+    let mut i: u8 = 0;
+    while i < n {
+        ranks[i as usize] = Rank::fresh(n, i, table);
+        i += 1;
+    }
+    ranks
+}
+
+// Their rows.
+fn first_rows(n: u8, table: [u8; 64]) -> [[u8; 64]; 64]
+    requires { ⌜ n ≤ 64 ⌝ }
+    requires { ⌜ table ≡ fresh flat n 0 ⌝ }
+    ensures { λ r. ⌜ r ≡ row (firstRow flat n) 64 ⌝ }
+{
+    let mut tables = [[sets::NONE; 64]; 64];
+    let mut i: u8 = 0;
+    while i < n {
+        tables[i as usize] = table;
+        i += 1;
+    }
+    tables
+}
+
+// Entry point: a group of n fresh ranks, all living, with nothing in flight. Refuses a bad size with 1.
+pub fn start(n: u32) -> Started
+    ensures { λ r. ⌜ r ≡ started flat n ⌝ }
+{
+    if tree::wrong_size(n) {
+        let nobody = Group {
+            n: 0,
+            dead: 0,
+            count: 0,
+            ranks: [no_rank(); 64],
+            net: [net::nothing(); 128],
+        };
+        return Started {
+            answer: 1,
+            state: join(nobody, [[0u8; 64]; 64]),
+        };
+    }
+    let size = n as u8;
+    let table = tree::fresh(size, 0);
+    let group = Group {
+        n: size,
+        dead: 0,
+        count: 0,
+        ranks: first_ranks(size, table),
+        net: [net::nothing(); 128],
+    };
+    Started {
+        answer: 0,
+        state: join(group, first_rows(size, table)),
+    }
+}

@@ -1,0 +1,3 @@
+-- All that the crates above cite of written text.
+pub mod Writing
+pub mod Digits
