@@ -1,8 +1,9 @@
-# Reads specs, then code, then files of theorems. A definition is needed where a contract or the statement of a theorem names it, or a
-# definition that is needed. Prints FILE LINES for each file of definitions, then what is needed by none.
+# Reads files of definitions, then code, then files of theorems. A definition is needed where a contract or the statement of a theorem names it,
+# or a definition that is needed. Prints "FILE LINES" for each file of definitions, and "unneeded FILE:NAME" for what is needed by none. Files
+# that open with "Closed tests" come last: what only they need is needed by none.
 
-function home(path,   parts, n, crate, module) {
-    # Rattle.tree.specs.Tree and Rattle.tree.specs.Tree are the file tree/specs/Tree.antt
+# Rattle.tree.specs.Tree and Rattle.tree.specs.Tree are the file crates/tree/specs/Tree.antt.
+function home(path,   crate) {
     if (path !~ /^Rattle·/) return ""
     sub(/^Rattle·/, "", path)
     crate = path; sub(/[.].*/, "", crate); sub(/·.*/, "", crate)
@@ -12,8 +13,9 @@ function home(path,   parts, n, crate, module) {
     return "crates/" crate "/specs/" path ".antt"
 }
 
-function words(text,   n) {
-    gsub(/--( .*)?$/, "", text)
+# The words of a line, without its comment and its projections.
+function words(text) {
+    sub(/(^| )-- .*$/, "", text)
     gsub(/ [.][A-Za-z0-9'-]+/, " ", text)
     gsub("′", "'", text)
     gsub(/[^A-Za-z0-9_'.-]+/, " ", text)
@@ -25,72 +27,78 @@ function meant(file, w,   dot, alias) {
     dot = index(w, ".")
     if (dot > 0) {
         alias = substr(w, 1, dot - 1)
-        if ((file, alias) in aliases) return defined[aliases[file, alias], substr(w, dot + 1)]
-        return ""
+        return (file, alias) in aliases ? defined[aliases[file, alias], substr(w, dot + 1)] : ""
     }
     if ((file, w) in defined) return defined[file, w]
-    if ((file, w) in scope) return defined[scope[file, w], w]
-    return ""
+    return (file, w) in scope ? defined[scope[file, w], w] : ""
 }
 
-# Keeps the words of a text for later, when all is read.
-function keep(user, file, text,   n, i) {
-    n = words(text)
-    for (i = 1; i <= n; i++) if (!seen[user, word[i]]++) { count_of[user]++; used[user, count_of[user]] = word[i]; file_of[user] = file }
+# All that a root needs.
+function reach(d,   i) {
+    top = 0; stack[++top] = d
+    while (top > 0) {
+        d = stack[top--]
+        if (d == "" || needed[d]) continue
+        needed[d] = 1
+        for (i = 1; i <= uses[d]; i++) stack[++top] = meant(of[d], use[d, i])
+    }
 }
 
-FNR == 1 { current = ""; clause = 0; inside = FILENAME ~ /\/specs\//; code = FILENAME ~ /[.]rt$/; statement = 0; closed[FILENAME] = /^-- Closed tests/ }
+function roots(closed_ones,   c, half, i, n, found) {
+    for (c = 1; c <= asked; c++) {
+        split(ask[c], half, "\t")
+        n = words(half[2]); found = 0
+        for (i = 1; i <= n; i++) root[++found] = meant(half[1], word[i])
+        for (i = 1; i <= found; i++) if (root[i] != "" && closed[of[root[i]]] == closed_ones) reach(root[i])
+    }
+}
+
+FNR == 1 { current = ""; record = 0; data = 0; statement = 0; specs = FILENAME ~ /\/specs\//; code = FILENAME ~ /[.]rt$/; closed[FILENAME] = /^-- Closed tests/ ? 1 : 0 }
 
 /^(ghost )?use / {
     line = $0; sub(/^(ghost )?use /, "", line); sub(/;$/, "", line)
-    if (line ~ / as /) { split(line, half, " as "); aliases[FILENAME, half[2]] = home(half[1]); next }
+    if (line ~ / as [^}]*$/) { split(line, half, " as "); aliases[FILENAME, half[2]] = home(half[1]); next }
     path = line; sub(/[.][{].*/, "", path); file = home(path)
-    names = line; sub(/.*[{]/, "", names); sub(/[}].*/, "", names)
-    n = split(names, name, ", ")
-    if (file != "") for (i = 1; i <= n; i++) scope[FILENAME, name[i]] = file
+    sub(/.*[{]/, "", line); sub(/[}].*/, "", line)
+    n = split(line, name, ", ")
+    if (file != "") for (i = 1; i <= n; i++) { split(name[i], half, " as "); scope[FILENAME, half[2] != "" ? half[2] : half[1]] = file }
     next
 }
 
-inside && /^ *(unfoldable |abbrev )?pub (record |data )?[^ ]+ / && !(/^  pub [a-z-]+ : / && record) {
+specs && /^module / { record = 0; data = 0; next }
+
+specs && /^ *(unfoldable |abbrev )?pub [^ ]+ / && !(record && /^  pub /) {
     line = $0; sub(/^ *(unfoldable |abbrev )?pub /, "", line)
-    record = line ~ /^record / || line ~ /^data /
-    data = line ~ /^data /
-    sub(/^(record |data )/, "", line); sub(/ .*/, "", line); gsub("′", "'", line)
+    record = line ~ /^(record|data) /; data = line ~ /^data /
+    sub(/^(record|data) /, "", line); sub(/ .*/, "", line); gsub("′", "'", line)
     current = FILENAME ":" line
     defined[FILENAME, line] = current; order[++total] = current; of[current] = FILENAME
 }
 
-inside && data && /^  [a-z-]+ : / { line = $1; defined[FILENAME, line] = current }
+# a case of a data type stands for the type
+specs && data && /^  [a-z-]+ : / { defined[FILENAME, $1] = current }
 
-inside && /^module / { record = 0; data = 0; next }
-
-inside && current != "" && !/^ *--/ && !/^ *$/ && !/^pub mod / { lines[current]++; keep(current, FILENAME, $0) }
-
-code && /^ *(requires|ensures)/ { keep("contract", "", ""); clauses[++clause_count] = FILENAME "\t" $0 }
-
-!inside && !code && /^ *pub [^ ]+ : / { statement = 1 }
-!inside && !code && statement && !/^ *pub / && /^ *[a-z][a-z-]* .*= *|^ *[a-z][a-z-]* .*=$|^ *unfolding / { statement = 0 }
-!inside && !code && statement { clauses[++clause_count] = FILENAME "\t" $0 }
-
-function need(d,   i, e) {
-    if (d == "" || needed[d]) return
-    needed[d] = 1
-    for (i = 1; i <= count_of[d]; i++) { e = meant(of[d], used[d, i]); stack[++top] = e }
+specs && current != "" && !/^ *--/ && !/^ *$/ {
+    lines[current]++
+    n = words($0)
+    for (i = 1; i <= n; i++) if (!seen[current, word[i]]++) use[current, ++uses[current]] = word[i]
 }
 
+code && /^ *(requires|ensures)/ { ask[++asked] = FILENAME "\t" $0 }
+
+!specs && !code && /^ *pub [^ ]+ : / { statement = 1; ask[++asked] = FILENAME "\t" $0; next }
+!specs && !code && /^ *(unfolding |[^ ]+ [^:]*= ?|[^ ]+ =)/ { statement = 0 }
+!specs && !code && statement { ask[++asked] = FILENAME "\t" $0 }
+
 END {
-    for (c = 1; c <= clause_count; c++) {
-        split(clauses[c], half, "\t")
-        n = words(half[2])
-        for (i = 1; i <= n; i++) stack[++top] = meant(half[1], word[i])
-        while (top > 0) { d = stack[top--]; need(d) }
-    }
+    roots(0)
+    for (i = 1; i <= total; i++) if (!closed[of[order[i]]] && !needed[order[i]]) print "unneeded " order[i]
+    roots(1)
     for (i = 1; i <= total; i++) {
         d = order[i]
-        if (needed[d]) sum[of[d]] += lines[d]
-        else print "unneeded " d
-        if (!(of[d] in listed)) { listed[of[d]] = 1; files[++file_count] = of[d] }
+        if (closed[of[d]] && !needed[d]) print "unneeded " d
+        if (!(of[d] in sum)) files[++count] = of[d]
+        sum[of[d]] += lines[d]
     }
-    for (i = 1; i <= file_count; i++) { print files[i], sum[files[i]] + 0, closed[files[i]] ? "closed" : "open"; if (!closed[files[i]]) whole += sum[files[i]] }
-    print "total", whole
+    for (i = 1; i <= count; i++) print files[i], sum[files[i]]
 }

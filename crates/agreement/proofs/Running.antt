@@ -19,7 +19,8 @@ use Rattle.group.specs.Events.{event}
 use Rattle.group.specs.Reaching.{Reaches, begun, next}
 use Rattle.group.proofs.Moves.{Flies, Move, Entry}
 use Rattle.group.proofs.Laws.Following.{event-moves}
-use Rattle.group.proofs.Demands.{reached-small, reached-in-order, reached-size, known-deaths-are-deaths}
+use Rattle.group.proofs.Laws.Reached.{reached-small, reached-in-order, reached-size}
+use Rattle.group.proofs.Demands.{known-deaths-are-deaths}
 use Rattle.agreement.proofs.Living.{Truthful}
 
 -- ---- a fresh group: all are outside with all bits set, nobody has heard or owes anybody, nothing is in flight

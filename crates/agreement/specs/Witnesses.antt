@@ -1,4 +1,4 @@
--- The claims are not empty, and no premise of them can be left out: six schedules, and tests of the states in which they end.
+-- Closed tests: the claims are not empty, and no premise of them can be left out. Six schedules, and the states in which they end.
 use Prim.Native.Nat.{ℕ, _<_}
 use mathlib.Core.Path.{_≡_}
 use mathlib.Core.Bool.{Bool, true, cond, not, _||_}

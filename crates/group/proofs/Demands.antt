@@ -1,73 +1,45 @@
--- Demand 3 as theorems over the states that a group can be in: from an accepted start, by accepted events. Every such state is in order, and
--- what holds of any state in order is in `Laws/Moving`. Over any ancestor sets, save the last. Assumes nothing.
-use mathlib.Core.Path.{_≡_, refl, sym, ap, subst, _∙_}
+-- Demand 3 as theorems over the states that a group can be in: from an accepted start, by accepted events. Every such state is in order
+-- (`Laws/Reached`), and what holds of any state in order is in `Laws/Moving`. Over any ancestor sets, save the last. Assumes nothing.
+use mathlib.Core.Path.{_≡_, subst}
 use mathlib.Core.Bool.{true, false, _||_}
 use Prim.Native.Nat.{ℕ, _≤_, _<_}
 use native.Mathlib.Omega.{arith}
 use lib.ListN.{getD}
 use Rattle.sets.specs.Sets.{has, add, union, below}
 use Rattle.tree.specs.Tree.{flat, fresh, links, digits}
-use Rattle.tree.proofs.Laws.Calls.{size-le, size-pos}
 use Rattle.tree.proofs.Laws.Climbing.{climb-within-digits}
 use Rattle.rank.specs.Words.{ask}
 use Rattle.rank.specs.Records.{awaiting}
-use Rattle.rank.proofs.Facts.{MemberInOrder}
 use Rattle.state.specs.declared.State.{State}
 use Rattle.state.specs.States.{rankAt, rowAt, placeAt}
-use Rattle.state.specs.Starting.{started}
-use Rattle.state.proofs.Laws.Starting.{started-fresh, fresh-size}
 use Rattle.order.specs.Between.{InOrder}
-use Rattle.order.proofs.Laws.Ordering.{in-order-facts}
-use Rattle.order.proofs.Laws.Fresh.{fresh-in-order}
 use Rattle.group.specs.Events.{subjectOf, event}
-use Rattle.group.specs.Reaching.{Reaches, begun, next, MovesExactly, AskMoves}
-use Rattle.group.proofs.Laws.Moving.{event-keeps-order, event-size, link-free, others-stay, others-move-nothing, notice-about, notice-knows, notice-moves, known-death-stays, delivery-about, dropped-moves-nothing, ask-knows, ask-moves}
-
--- ---- the states that are reached
-
--- The size that a group was started with is 1 to 64.
-pub reached-small : (anc : ℕ → ℕ) (n : ℕ) (s : State) → Reaches anc n s → (0 < n) × (n ≤ 64)
-reached-small anc n s (begun z) = let t = started-fresh anc n z .0 in (size-pos n t, size-le n _ refl t)
-reached-small anc n s (next s′ kind a b run z) = reached-small anc n s′ run
+use Rattle.group.specs.Reaching.{Reaches, MovesExactly, AskMoves}
+use Rattle.group.proofs.Laws.Reached.{reached-small, reached-in-order, reached-size, reached-inside, reached-member}
+use Rattle.group.proofs.Laws.Moving.{link-free, others-stay, others-move-nothing, notice-about, notice-knows, notice-moves, known-death-stays, delivery-about, dropped-moves-nothing, ask-knows, ask-moves}
 
 -- Every reached state is in order.
-pub reached-in-order : (anc : ℕ → ℕ) (n : ℕ) (s : State) → Reaches anc n s → InOrder anc s
-reached-in-order anc n s (begun z) =
-    let t = reached-small anc n (started anc n .state) (begun z) in
-    subst (InOrder anc) (sym (started-fresh anc n z .1)) (fresh-in-order anc n (t .0) (t .1))
-reached-in-order anc n s (next s′ kind a b run z) = event-keeps-order anc s′ kind a b (reached-in-order anc n s′ run)
-
--- Its size is the one that the group was started with.
-pub reached-size : (anc : ℕ → ℕ) (n : ℕ) (s : State) → Reaches anc n s → s .group .n ≡ n
-reached-size anc n s (begun z) = ap (λ (x : State). x .group .n) (started-fresh anc n z .1) ∙ fresh-size anc n
-reached-size anc n s (next s′ kind a b run z) = event-size anc s′ kind a b (reached-in-order anc n s′ run) ∙ reached-size anc n s′ run
+pub a-reached-state-is-in-order : (anc : ℕ → ℕ) (n : ℕ) (s : State) → Reaches anc n s → InOrder anc s
+a-reached-state-is-in-order = reached-in-order
 
 -- ---- what each rank holds
 
 module _ (anc : ℕ → ℕ) (n : ℕ) (s : State) (run : Reaches anc n s) where
-  -- a rank of the reached group is one of the state
-  inside : (i : ℕ) → i < n → i < s .group .n
-  inside i l = let e : s .group .n ≡ n = reached-size anc n s run in omega arith
-
-  -- Each rank and its row are in order.
-  pub reached-member : (i : ℕ) → i < n → MemberInOrder anc n (s .group .dead) i (rankAt s i) (rowAt s i)
-  reached-member i l = subst (λ (m : ℕ). MemberInOrder anc m (s .group .dead) i (rankAt s i) (rowAt s i)) (reached-size anc n s run) (in-order-facts anc s (reached-in-order anc n s run) .member i (inside i l))
-
   -- Each rank's table is the one worked out afresh from the deaths that the rank knows.
   pub table-is-fresh : (i : ℕ) → i < n → rowAt s i ≡ fresh anc n (rankAt s i .marks)
-  table-is-fresh i l = reached-member i l .table
+  table-is-fresh i l = reached-member anc n s run i l .table
 
   -- Its awaited set is the fresh one: its children by that table that it has not heard.
   pub awaited-is-fresh : (i : ℕ) → i < n → rankAt s i .awaited ≡ awaiting anc n i (rankAt s i .marks) (rankAt s i .heard)
-  awaited-is-fresh i l = reached-member i l .in-order .to-settle .awaits
+  awaited-is-fresh i l = reached-member anc n s run i l .in-order .to-settle .awaits
 
   -- The deaths that it knows are deaths.
   pub known-deaths-are-deaths : (i : ℕ) → i < n → (k : ℕ) → has (rankAt s i .marks) k ≡ true → has (s .group .dead) k ≡ true
-  known-deaths-are-deaths i l = reached-member i l .marks-dead
+  known-deaths-are-deaths i l = reached-member anc n s run i l .marks-dead
 
   -- No link of its table ends at a rank that it knows to be dead.
   pub no-link-to-a-known-death : (i p k : ℕ) → i < n → p < n → has (rankAt s i .marks) k ≡ true → getD (rowAt s i) p 0 ≡ k → ⊥
-  no-link-to-a-known-death i p k l b = link-free anc s i p k (reached-in-order anc n s run) (inside i l) (inside p b)
+  no-link-to-a-known-death i p k l b = link-free anc s i p k (reached-in-order anc n s run) (reached-inside anc n s run i l) (reached-inside anc n s run p b)
 
 -- ---- any accepted event
 
@@ -93,7 +65,7 @@ module _ (anc : ℕ → ℕ) (n : ℕ) (s : State) (run : Reaches anc n s) (a b 
 
   -- One newly known death moves exactly the links that ended at the dead rank.
   pub a-notice-moves-exactly : MovesExactly n b (rowAt s a) (rowAt (event anc s 4 a b .state) a)
-  a-notice-moves-exactly p l = notice-moves anc s (reached-in-order anc n s run) a b z p (inside anc n s run p l)
+  a-notice-moves-exactly p l = notice-moves anc s (reached-in-order anc n s run) a b z p (reached-inside anc n s run p l)
 
   -- A death that was known already moves nothing.
   pub a-known-death-moves-nothing : has (rankAt s a .marks) b ≡ true → rowAt (event anc s 4 a b .state) a ≡ rowAt s a

@@ -6,3 +6,4 @@ pub mod Knowing
 pub mod Moving
 pub mod Flying
 pub mod Following
+pub mod Reached

@@ -1,5 +1,5 @@
--- No promise is empty: for each refusal number a state, an event or a file that gets it, and for each rule an accepted event that uses
--- it, as one list of tests.
+-- Closed tests: no promise is empty. For each refusal number a state, an event or a file that gets it, and for each rule an accepted event
+-- that uses it, as one list.
 use Prim.Native.Nat.{ℕ}
 use mathlib.Core.Bool.{Bool, _&&_}
 use mathlib.Core.List.{List, [], _∷_}

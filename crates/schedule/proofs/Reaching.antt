@@ -14,7 +14,7 @@ use Rattle.group.specs.declared.Stepped.{Stepped}
 use Rattle.group.specs.Reaching.{Reaches, begun, next}
 use Rattle.group.proofs.Laws.Stepping.{step-stays}
 use Rattle.group.proofs.Laws.Events.{event-steps-on}
-use Rattle.group.proofs.Demands.{reached-in-order}
+use Rattle.group.proofs.Laws.Reached.{reached-in-order}
 use Rattle.files.specs.Files.{byteAt, eventAt, eventsIn}
 use Rattle.schedule.specs.Runs.{Run, stepAt, written, played, acceptedRun, run}
 use Rattle.schedule.specs.Reaching.{eventOf, After, taken, left}

@@ -22,7 +22,7 @@ use Rattle.group.specs.Events.{event}
 use Rattle.group.specs.Reaching.{Reaches, begun, next}
 use Rattle.group.proofs.Moves.{Move, by-rank, by-loss, Entry}
 use Rattle.group.proofs.Laws.Following.{enters-from-outside}
-use Rattle.group.proofs.Demands.{reached-small, reached-in-order}
+use Rattle.group.proofs.Laws.Reached.{reached-small, reached-in-order}
 use Rattle.agreement.specs.Agreement.{isEntry, hasEntered, wordOf}
 use Rattle.agreement.proofs.Living.{Truthful}
 use Rattle.agreement.proofs.Running.{quiet, all-outside, all-ones, none-heard, reached-truthful, reached-moves}

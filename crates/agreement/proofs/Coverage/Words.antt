@@ -1,44 +1,17 @@
 -- The laws of a set's AND, and of a word that is one: of two sets, of one rank more, and in a later state. Assumes nothing.
 use mathlib.Core.Path.{_≡_, refl, sym, ap, ap₂, subst, _∙_}
-use mathlib.Core.Bool.{Bool, true, false, cond, _&&_, _||_}
+use mathlib.Core.Bool.{Bool, true, false, cond, _||_}
 use mathlib.Core.Logic.{_⊎_, inl, inr, ⊎-elim}
 use Prim.Native.Nat.{ℕ, zero, suc, _<_}
 use native.Mathlib.Omega.{arith}
-use lib.Bits.{and-comm, and-self}
-use Rattle.sets.specs.Sets.{has, union, meet, add}
-use Rattle.sets.proofs.Laws.Bools.{eq-or-ne, cond-false, and-assoc, or-l, or-r, or-cases}
-use Rattle.sets.proofs.Laws.Members.{ext, has-meet, has-union, has-zero, has-add-same, has-add-other, has-add-more}
+use Rattle.sets.specs.Sets.{has, union, add}
+use Rattle.sets.proofs.Laws.Bools.{eq-or-ne, cond-false, or-l, or-r, or-cases}
+use Rattle.sets.proofs.Laws.Members.{has-union, has-zero, has-add-same, has-add-other, has-add-more}
 use Rattle.rank.specs.Words.{allBits, combine}
+use Rattle.rank.proofs.Laws.Words.{combine-self, combine-assoc, combine-again, combine-swap, combine-twice}
 use Rattle.state.specs.declared.State.{State}
 use Rattle.agreement.specs.Agreement.{andOf}
 use Rattle.agreement.proofs.Coverage.Invariant.{Entered, Combines}
-
--- ---- the AND of two words
-
-combine-comm : (a b : ℕ) → combine a b ≡ combine b a
-unfolding combine
-combine-comm a b = and-comm a b
-
-combine-self : (a : ℕ) → combine a a ≡ a
-unfolding combine
-combine-self a = and-self a
-
-combine-assoc : (a b c : ℕ) → combine (combine a b) c ≡ combine a (combine b c)
-unfolding combine meet
-combine-assoc a b c = ext (meet (meet a b) c) (meet a (meet b c)) (λ k.
-    has-meet (meet a b) c k ∙ ap (λ (t : Bool). t && has c k) (has-meet a b k)
-    ∙ and-assoc (has a k) (has b k) (has c k) ∙ sym (has-meet a (meet b c) k ∙ ap (λ (t : Bool). has a k && t) (has-meet b c k)))
-
--- a word that is in already changes nothing
-combine-again : (a b : ℕ) → combine (combine a b) b ≡ combine a b
-combine-again a b = combine-assoc a b b ∙ ap (combine a) (combine-self b)
-
--- one word more: its place does not matter, and it may join either side or both
-combine-swap : (a b c : ℕ) → combine (combine a b) c ≡ combine (combine a c) b
-combine-swap a b c = combine-assoc a b c ∙ ap (combine a) (combine-comm b c) ∙ sym (combine-assoc a c b)
-
-combine-twice : (a b c : ℕ) → combine (combine a b) c ≡ combine (combine a c) (combine b c)
-combine-twice a b c = combine-assoc a b c ∙ ap (combine a) (sym (combine-comm c (combine b c) ∙ combine-again b c)) ∙ sym (combine-assoc a c (combine b c))
 
 -- ---- the AND of a set
 

@@ -10,7 +10,7 @@ use Rattle.tree.proofs.Laws.Flat.{flat-ancestry, flat-chained}
 use Rattle.state.specs.declared.State.{State}
 use Rattle.state.specs.Starting.{freshState}
 use Rattle.group.specs.Reaching.{Reaches}
-use Rattle.group.proofs.Demands.{reached-small, reached-member}
+use Rattle.group.proofs.Laws.Reached.{reached-small, reached-member}
 use Rattle.files.specs.Files.{byteAt}
 use Rattle.schedule.specs.Runs.{run}
 use Rattle.schedule.proofs.Reaching.{run-reaches}

@@ -13,7 +13,7 @@ use lib.Pow.{pow-pos, pow-mono, pow-lt, pow-add, shr-shr, shl-exact}
 use lib.Bits.{bitAnd, bitOr, bitXor, and-shr, or-shr, xor-shr, and-mod, or-mod, xor-mod, or-lt, or-shifted-r, and-mask, xor-add-and}
 use borrow.Author.Tests.{not-true, eq-eqb, ne-eqb, eqb-true, lt-ltb, le-ltb, ltb-true}
 use Rattle.sets.specs.Sets.{has, only, union, meet, minus, add, below, setOf}
-use Rattle.sets.proofs.Laws.Bools.{and-true, same-test, and-i, and-l, and-r, or-l, or-r, or-cases, clash, fails, passes, not-i, lt-or-le, eq-or-ne, or-false-r, cond-true, and-not-l}
+use Rattle.sets.proofs.Laws.Bools.{and-true, same-test, and-i, and-l, and-r, or-l, or-r, or-cases, clash, fails, passes, not-i, lt-or-le, eq-or-ne, or-false-r, cond-true, and-not-l, and-assoc}
 
 -- ---- digits
 
@@ -379,3 +379,10 @@ minus-minus a b p = ext (minus (minus a b) (only p)) (minus a (add b p)) (λ k. 
 
 pub minus-none : (a : ℕ) → minus a 0 ≡ a
 minus-none a = ext (minus a 0) a (λ k. has-minus a 0 k ∙ ap (λ (x : Bool). has a k && not x) (has-zero k) ∙ and-true (has a k))
+
+-- AND of three words: it does not matter which two come first
+pub bits-assoc : (a b c : ℕ) → bitAnd (bitAnd a b) c ≡ bitAnd a (bitAnd b c)
+unfolding meet
+bits-assoc a b c = ext (meet (meet a b) c) (meet a (meet b c)) (λ k.
+    has-meet (meet a b) c k ∙ ap (λ (t : Bool). t && has c k) (has-meet a b k)
+    ∙ and-assoc (has a k) (has b k) (has c k) ∙ sym (has-meet a (meet b c) k ∙ ap (λ (t : Bool). has a k && t) (has-meet b c k)))
