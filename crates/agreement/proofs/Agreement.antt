@@ -16,8 +16,8 @@ use Rattle.schedule.proofs.Reaching.{run-reaches}
 use Rattle.agreement.specs.Progress.{Lives}
 use Rattle.agreement.specs.Agreement.{wordOf, FromTheLiving, Decides, Agreement}
 use Rattle.agreement.proofs.Concord.Reaching.{reached-agrees}
-use Rattle.agreement.proofs.Coverage.Invariant.{Combines}
-use Rattle.agreement.proofs.Coverage.Reaching.{reached-covers, entered-in-the-run}
+use Rattle.agreement.proofs.Votes.Invariant.{Combines}
+use Rattle.agreement.proofs.Votes.Reaching.{reached-votes, entered-in-the-run}
 
 module _ (anc : ℕ → ℕ) (tree : Ancestry anc) (chain : Chained anc) (n : ℕ) (s : State) (r : Reaches anc n s) where
   -- The same result.
@@ -28,7 +28,7 @@ module _ (anc : ℕ → ℕ) (tree : Ancestry anc) (chain : Chained anc) (n : �
 
   -- The AND of the words of a set with every living rank in it.
   pub result-from-the-living : (i : ℕ) → Decides n s i → FromTheLiving anc n s r (rankAt s i .result)
-  result-from-the-living i d = go (reached-covers anc tree chain n s r .results i (d .0 .0) (d .1))
+  result-from-the-living i d = go (reached-votes anc tree chain n s r .results i (d .0 .0) (d .1))
     where
       go : Combines n (wordOf anc n s r) s (Lives n s) (rankAt s i .result) → FromTheLiving anc n s r (rankAt s i .result)
       go c = record {

@@ -23,8 +23,8 @@ use Rattle.agreement.proofs.Progress.Invariant.{Progress}
 use Rattle.agreement.proofs.Progress.Moving.{a-move-keeps}
 use Rattle.agreement.proofs.Concord.Invariant.{Concord}
 use Rattle.agreement.proofs.Concord.Reaching.{a-move-agrees}
-use Rattle.agreement.proofs.Coverage.Invariant.{Coverage}
-use Rattle.agreement.proofs.Coverage.Reaching.{a-move-covers}
+use Rattle.agreement.proofs.Votes.Invariant.{Votes}
+use Rattle.agreement.proofs.Votes.Reaching.{a-move-keeps-votes}
 
 -- p lives and q, which is below p, is not marked by it. p's record is what `overhearing` makes of it and all else stays; what p sends joins
 -- the messages in flight, and nothing else joins or leaves.
@@ -90,5 +90,5 @@ module _ (anc : ℕ → ℕ) (tree : Ancestry anc) (chain : Chained anc) (n : �
   pub overhearing-agrees : Concord anc n s → Concord anc n s′
   overhearing-agrees inv = a-move-agrees anc tree chain n small NoEntry s s′ true′ inv (overhears-moves anc tree n small s s′ p q o)
 
-  pub overhearing-covers : (words : ℕ → ℕ) → Coverage anc n words s → Coverage anc n words s′
-  overhearing-covers words inv = a-move-covers anc tree chain n small NoEntry s s′ true′ words words (λ b v e. absurd e) (λ i e. refl) inv (overhears-moves anc tree n small s s′ p q o)
+  pub overhearing-votes : (words : ℕ → ℕ) → Votes anc n words s → Votes anc n words s′
+  overhearing-votes words inv = a-move-keeps-votes anc tree chain n small NoEntry s s′ true′ words words (λ b v e. absurd e) (λ i e. refl) inv (overhears-moves anc tree n small s s′ p q o)

@@ -12,7 +12,8 @@ use Rattle.state.specs.declared.State.{State}
 use Rattle.files.specs.Files.{eventsIn}
 use Rattle.schedule.specs.Runs.{run}
 use Rattle.schedule.proofs.Laws.Slices.{Agree, same-run}
-use Rattle.listing.specs.Listings.{eventLine, lines, listing, refusedLine, reportOf, report}
+use Rattle.lines.specs.Lines.{eventLine, refusedLine}
+use Rattle.listing.specs.Listings.{lines, listing, reportOf, report}
 
 lines-same : (f g : ℕ → List ℕ) (k : ℕ) → ((i : ℕ) → i < k → f i ≡ g i) → lines f k ≡ lines g k
 unfolding lines

@@ -20,7 +20,8 @@ use Rattle.files.specs.Files.{byteAt, shortAt, numberAt, eventAt, eventsIn, wro
 use Rattle.schedule.specs.Reaching.{eventOf}
 use Rattle.schedule.specs.Runs.{written, stepAt, played, refusedRun, acceptedRun, opened, run}
 use Rattle.schedule.specs.Samples.{then, file, three}
-use Rattle.listing.specs.Listings.{firstLine, eventLine, living, resultField, rankLine, lastLine, lines, rankLines, listing, refusedLine, reportOf, report}
+use Rattle.lines.specs.Lines.{firstLine, eventLine, living, resultField, rankLine, lastLine, refusedLine}
+use Rattle.listing.specs.Listings.{lines, rankLines, listing, reportOf, report}
 use Rattle.listing.specs.Witnesses.{threeListing, later, seen, goes, one, two, reporting, widowed, extinct, crowded, witnesses}
 
 pub nothing-is-vacuous : all witnesses ≡ true

@@ -1,9 +1,9 @@
 // Numbers and letters into a lent buffer. Each function writes from a place on and answers the place after its last byte.
 ghost use mathlib.Core.Path.{_≡_};
-ghost use mathlib.Core.List.{_∷_, []};
+ghost use mathlib.Core.List.{_++_, _∷_, []};
 ghost use Prim.Native.Nat.{_+_, _<_, _≤_};
 ghost use lib.ListN.{length};
-ghost use Rattle.text.specs.Text.{Wrote, decimal, field};
+ghost use Rattle.text.specs.Text.{Wrote, decimal, feed, field};
 
 pub fn put_byte(text: &mut [u8], at: usize, byte: u8) -> usize
     requires { ⌜ at < length (now text) ⌝ }
@@ -47,4 +47,23 @@ pub fn put_letters(text: &mut [u8], at: usize, letters: &[u8]) -> usize
         i += 1;
     }
     next
+}
+
+// A field that ends its line.
+pub fn put_end(text: &mut [u8], at: usize, x: u32) -> usize
+    requires { ⌜ at + 12 ≤ length (now text) ⌝ }
+    ensures { λ r. ⌜ Wrote (now (text .entry)) at (field x ++ feed) (now (text .exit)) r ⌝ }
+{
+    let end = put_field(text, at, x);
+    put_byte(text, end, b'\n')
+}
+
+// Three fields that end their line.
+pub fn put_three(text: &mut [u8], at: usize, x: u32, y: u32, z: u32) -> usize
+    requires { ⌜ at + 34 ≤ length (now text) ⌝ }
+    ensures { λ r. ⌜ Wrote (now (text .entry)) at (field x ++ (field y ++ (field z ++ feed))) (now (text .exit)) r ⌝ }
+{
+    let second = put_field(text, at, x);
+    let third = put_field(text, second, y);
+    put_end(text, third, z)
 }

@@ -13,7 +13,7 @@ use Rattle.state.specs.declared.State.{State}
 use Rattle.state.specs.States.{rankAt}
 use Rattle.group.proofs.Moves.{ByLoss}
 use Rattle.agreement.proofs.Living.{faded}
-use Rattle.agreement.proofs.Concord.Invariant.{MayTell, Arrives, Answers, SpokenFor, Open, Verdict, Concord}
+use Rattle.agreement.proofs.Concord.Invariant.{MayTell, Arrives, Answers, Covers, Open, Verdict, Concord}
 
 module _ (anc : ℕ → ℕ) (n : ℕ) (s s′ : State) (t : ByLoss s s′) (inv : Concord anc n s) where
   leads-on : (x b : ℕ) → MayLead anc (s .group .dead) x b → MayLead anc (s′ .group .dead) x b
@@ -23,7 +23,7 @@ module _ (anc : ℕ → ℕ) (n : ℕ) (s s′ : State) (t : ByLoss s s′) (inv
   tells-on b x (inl h) = inl (leads-on x b h)
   tells-on b x (inr h) = inr (λ a l. t .dead-stays a (h a l))
 
-  was-covered : (y x : ℕ) → SpokenFor anc n s′ y x → SpokenFor anc n s y x
+  was-covered : (y x : ℕ) → Covers anc n s′ y x → Covers anc n s y x
   was-covered y x (c, d, a, k) = (c, d, go a, k)
     where
       go : Answers anc n s′ y c → Answers anc n s y c
@@ -44,8 +44,8 @@ module _ (anc : ℕ → ℕ) (n : ℕ) (s s′ : State) (t : ByLoss s s′) (inv
   was-verdict w (inl (i, l, e, r)) = inl (i, faded t i l, was-decided i e, subst (λ (y : Rank). y .result ≡ w) (t .ranks-stay i) r)
   was-verdict w (inr (b, x, a)) = inr (b, x, arrived b x w a)
 
-  pub fades-agree : Concord anc n s′
-  fades-agree = record {
+  pub by-loss-agrees : Concord anc n s′
+  by-loss-agrees = record {
     report-leads = λ x b h. leads-on x b (inv .report-leads x b (t .was up x b h));
     heard-leads = λ x b l h. leads-on x b (inv .heard-leads x b l (subst (λ (r : Rank). has (r .heard) x ≡ true) (t .ranks-stay b) h));
     owed-tells = λ x b l h. tells-on b x (inv .owed-tells x b l (subst (λ (r : Rank). has (r .owed) x ≡ true) (t .ranks-stay b) h));

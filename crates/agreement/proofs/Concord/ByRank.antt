@@ -11,7 +11,7 @@ use Rattle.sets.proofs.Laws.Bools.{clash, fails, eq-or-ne}
 use Rattle.tree.specs.Relations.{Ancestry, Chained}
 use Rattle.tree.proofs.Kin.{Under, MayLead, UnderAChild}
 use Rattle.tree.proofs.Laws.Parents.{no-parent-all}
-use Rattle.tree.proofs.Laws.Children.{under-le, covered-by-root}
+use Rattle.tree.proofs.Laws.Children.{under-le, child-above-all}
 use Rattle.rank.specs.declared.Rank.{Rank}
 use Rattle.rank.specs.declared.Send.{Send}
 use Rattle.rank.specs.Words.{waiting, decided, up, down}
@@ -22,7 +22,7 @@ use Rattle.state.specs.States.{rankAt}
 use Rattle.group.proofs.Moves.{Flies, Carries, ByRank, ByRankInWords}
 use Rattle.agreement.specs.Progress.{Lives}
 use Rattle.agreement.proofs.Living.{Truthful, lived, own-lives, unmarked, taken}
-use Rattle.agreement.proofs.Concord.Invariant.{MayTell, Arrives, Answers, SpokenFor, Open, Verdict, Concord}
+use Rattle.agreement.proofs.Concord.Invariant.{MayTell, Arrives, Answers, Covers, Open, Verdict, Concord}
 use Rattle.agreement.proofs.Concord.Leading.{one-parent, teller-covered}
 use Rattle.agreement.proofs.Concord.Linking.{own-marks, own-parent, report-leads′, heard-leads′, owed-tells′, own-tells, decided-stays, teller-decides, down-tells′}
 
@@ -31,7 +31,7 @@ module _ (anc : ℕ → ℕ) (tree : Ancestry anc) (chain : Chained anc) (n : �
   -- ---- who is covered
 
   -- a cover grows only by this rank's report
-  was-covered : (y x : ℕ) → SpokenFor anc n s′ y x → SpokenFor anc n s y x ⊎ (Says f g up y × Under anc p x)
+  was-covered : (y x : ℕ) → Covers anc n s′ y x → Covers anc n s y x ⊎ (Says f g up y × Under anc p x)
   was-covered y x (c, d, a, k) = go a
     where
       own : (y ≡ p) → (has (rankAt s p .heard) c ≡ true) ⊎ ((kind ≡ up) × (q ≡ c)) → Answers anc n s y c
@@ -42,11 +42,11 @@ module _ (anc : ℕ → ℕ) (tree : Ancestry anc) (chain : Chained anc) (n : �
       heard h (inl e) = own e (t .turn .heard-new c (subst (λ (z : ℕ). has (rankAt s′ z .heard) c ≡ true) e h))
       heard h (inr o) = inr (inl (subst (λ (r : Rank). has (r .heard) c ≡ true) (t .others y o) h))
 
-      reports : Flies s up c y ⊎ ((c ≡ p) × Says f g up y) → SpokenFor anc n s y x ⊎ (Says f g up y × Under anc p x)
+      reports : Flies s up c y ⊎ ((c ≡ p) × Says f g up y) → Covers anc n s y x ⊎ (Says f g up y × Under anc p x)
       reports (inl h) = inl (c, d, inr (inr h), k)
       reports (inr (e, h)) = inr (h, subst (λ (z : ℕ). Under anc z x) e k)
 
-      go : Answers anc n s′ y c → SpokenFor anc n s y x ⊎ (Says f g up y × Under anc p x)
+      go : Answers anc n s′ y c → Covers anc n s y x ⊎ (Says f g up y × Under anc p x)
       go (inl e) = inl (c, d, inl e, k)
       go (inr (inl h)) = inl (c, d, heard h (eq-or-ne y p), k)
       go (inr (inr h)) = reports (t .was up c y h)
@@ -58,7 +58,7 @@ module _ (anc : ℕ → ℕ) (tree : Ancestry anc) (chain : Chained anc) (n : �
   answerer y c l (inr (inr h)) = inr (inv .report-leads c y h)
 
   -- a rank covers only larger ones
-  cover-above : (y x : ℕ) → y < n → SpokenFor anc n s y x → y < x
+  cover-above : (y x : ℕ) → y < n → Covers anc n s y x → y < x
   cover-above y x l (c, d, a, k) = go (answerer y c l a)
     where
       go : (c ≡ y) ⊎ MayLead anc (s .group .dead) c y → y < x
@@ -74,7 +74,7 @@ module _ (anc : ℕ → ℕ) (tree : Ancestry anc) (chain : Chained anc) (n : �
   arrival : kind ≡ down → Arrives anc n s q p v
   arrival k = (subst (λ (j : ℕ). Carries s j q p v) k (u .took (λ z. omega arith)), (t .own, t .lives), t .known (λ z. omega arith))
 
-  decides-uncovered : (y : ℕ) → Lives n s y → (rankAt s y .phase ≡ decided → ⊥) → SpokenFor anc n s y p → rankAt s′ p .phase ≡ decided → ⊥
+  decides-uncovered : (y : ℕ) → Lives n s y → (rankAt s y .phase ≡ decided → ⊥) → Covers anc n s y p → rankAt s′ p .phase ≡ decided → ⊥
   decides-uncovered y l d c e = go (u .speech .result-from e)
     where
       o : Open anc n s p
@@ -98,7 +98,7 @@ module _ (anc : ℕ → ℕ) (tree : Ancestry anc) (chain : Chained anc) (n : �
       go (inr e) = inr e
 
   -- and it tells nobody whom another living undecided rank covers
-  tells-uncovered : (y x w : ℕ) → Lives n s y → (rankAt s′ y .phase ≡ decided → ⊥) → SpokenFor anc n s y x → SaysWord f g down w x → ⊥
+  tells-uncovered : (y x w : ℕ) → Lives n s y → (rankAt s′ y .phase ≡ decided → ⊥) → Covers anc n s y x → SaysWord f g down w x → ⊥
   tells-uncovered y x w l d (c, o, a, k) h =
       let e : rankAt s′ p .phase ≡ decided = teller-decides tree small t u true′ inv w x h in
       let other : y ≡ p → ⊥ = λ z. d (subst (λ (j : ℕ). rankAt s′ j .phase ≡ decided) (sym z) e) in
@@ -137,7 +137,7 @@ module _ (anc : ℕ → ℕ) (tree : Ancestry anc) (chain : Chained anc) (n : �
         go (inl e) = subst (Open anc n s′) (sym e) (waits, no-down)
         go (inr o) = still-open x (inv .covered-open p x (t .own, t .lives) (λ e. waits (t .turn .final e)) (p, o, inl refl, k) b) (λ z. absurd (o z)) (λ w z. waits (teller-decides tree small t u true′ inv w x z))
 
-  covered-open′ : (y x : ℕ) → Lives n s′ y → (rankAt s′ y .phase ≡ decided → ⊥) → SpokenFor anc n s′ y x → x < n → Open anc n s′ x
+  covered-open′ : (y x : ℕ) → Lives n s′ y → (rankAt s′ y .phase ≡ decided → ⊥) → Covers anc n s′ y x → x < n → Open anc n s′ x
   covered-open′ y x l d c b = go (was-covered y x c)
     where
       ly : Lives n s y
@@ -146,8 +146,8 @@ module _ (anc : ℕ → ℕ) (tree : Ancestry anc) (chain : Chained anc) (n : �
       dy : rankAt s y .phase ≡ decided → ⊥
       dy e = d (decided-stays tree small t u true′ inv y e)
 
-      go : SpokenFor anc n s y x ⊎ (Says f g up y × Under anc p x) → Open anc n s′ x
-      go (inl k) = still-open x (inv .covered-open y x ly dy k b) (λ e. decides-uncovered y ly dy (subst (SpokenFor anc n s y) e k)) (λ w h. tells-uncovered y x w ly d k h)
+      go : Covers anc n s y x ⊎ (Says f g up y × Under anc p x) → Open anc n s′ x
+      go (inl k) = still-open x (inv .covered-open y x ly dy k b) (λ e. decides-uncovered y ly dy (subst (Covers anc n s y) e k)) (λ w h. tells-uncovered y x w ly d k h)
       go (inr (h, k)) = reported-open y ly dy h x k b
 
   -- ---- one result
@@ -157,9 +157,9 @@ module _ (anc : ℕ → ℕ) (tree : Ancestry anc) (chain : Chained anc) (n : �
   all-open z x l m o = inv .covered-open p x (t .own, t .lives) (z .was-undecided) (go (was-covered p x (k .child, o, inr (inl (z .complete (k .child) (k .isChild))), k .under))) l
     where
       k : UnderAChild anc n (rankAt s′ p .marks) p x
-      k = let b = t .own in covered-by-root anc tree n (rankAt s′ p .marks) p x (omega arith) (z .root) (unmarked t true′ p (own-lives t)) l m o
+      k = let b = t .own in child-above-all anc tree n (rankAt s′ p .marks) p x (omega arith) (z .root) (unmarked t true′ p (own-lives t)) l m o
 
-      go : SpokenFor anc n s p x ⊎ (Says f g up p × Under anc p x) → SpokenFor anc n s p x
+      go : Covers anc n s p x ⊎ (Says f g up p × Under anc p x) → Covers anc n s p x
       go (inl c) = c
       go (inr c) = (p, o, inl refl, c .1)
 

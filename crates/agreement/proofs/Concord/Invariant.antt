@@ -27,8 +27,8 @@ module _ (anc : ℕ → ℕ) (n : ℕ) where
   Answers s y c = (c ≡ y) ⊎ ((has (rankAt s y .heard) c ≡ true) ⊎ Flies s up c y)
 
   -- y covers x.
-  abbrev pub SpokenFor : State → ℕ → ℕ → Type 0
-  SpokenFor s y x = (c : ℕ) × (x ≡ y → ⊥) × Answers s y c × Under anc c x
+  abbrev pub Covers : State → ℕ → ℕ → Type 0
+  Covers s y x = (c : ℕ) × (x ≡ y → ⊥) × Answers s y c × Under anc c x
 
   -- x is undecided, and no DOWN arrives at it.
   abbrev pub Open : State → ℕ → Type 0
@@ -43,5 +43,5 @@ module _ (anc : ℕ → ℕ) (n : ℕ) where
     pub heard-leads : (x b : ℕ) → b < n → has (rankAt s b .heard) x ≡ true → MayLead anc (s .group .dead) x b
     pub owed-tells : (x b : ℕ) → b < n → has (rankAt s b .owed) x ≡ true → MayTell anc (s .group .dead) b x
     pub down-tells : (b x : ℕ) → Flies s down b x → (b < n) × (rankAt s b .phase ≡ decided) × MayTell anc (s .group .dead) b x
-    pub covered-open : (y x : ℕ) → Lives n s y → (rankAt s y .phase ≡ decided → ⊥) → SpokenFor s y x → x < n → Open s x
+    pub covered-open : (y x : ℕ) → Lives n s y → (rankAt s y .phase ≡ decided → ⊥) → Covers s y x → x < n → Open s x
     pub one-result : (w w′ : ℕ) → Verdict s w → Verdict s w′ → w ≡ w′

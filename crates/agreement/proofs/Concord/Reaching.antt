@@ -12,11 +12,11 @@ use Rattle.agreement.proofs.Living.{Truthful}
 use Rattle.agreement.proofs.Running.{quiet, all-outside, none-heard, none-owed, every-reached}
 use Rattle.agreement.proofs.Concord.Invariant.{Verdict, Concord}
 use Rattle.agreement.proofs.Concord.ByRank.{turn-agrees}
-use Rattle.agreement.proofs.Concord.ByLoss.{fades-agree}
+use Rattle.agreement.proofs.Concord.ByLoss.{by-loss-agrees}
 
 pub a-move-agrees : (anc : ℕ → ℕ) → Ancestry anc → Chained anc → (n : ℕ) → n ≤ 64 → (Entry : ℕ → ℕ → Type 0) (s s′ : State) → Truthful n s′ → Concord anc n s → Move anc n Entry s s′ → Concord anc n s′
 a-move-agrees anc tree chain n small Entry s s′ true′ inv (by-rank p kind q v f g t u) = turn-agrees anc tree chain n small Entry s s′ p kind q v f g t u true′ inv
-a-move-agrees anc tree chain n small Entry s s′ true′ inv (by-loss t) = fades-agree anc n s s′ t inv
+a-move-agrees anc tree chain n small Entry s s′ true′ inv (by-loss t) = by-loss-agrees anc n s s′ t inv
 
 module _ (anc : ℕ → ℕ) (n : ℕ) (small : n ≤ 64) where
   no-verdict : (w : ℕ) → Verdict anc n (freshState anc n) w → ⊥

@@ -40,8 +40,8 @@ module _ (anc : ℕ → ℕ) (n : ℕ) (s s′ : State) (t : ByLoss s s′) (inv
   still-polled a c la lc (inr (inr (inl h))) = inr (inr (inl (subst (λ (r : Rank). InDebt anc n r a) (sym (t .ranks-stay c)) h)))
   still-polled a c la lc (inr (inr (inr h))) = inr (inr (inr (kept down c a lc la h)))
 
-  pub fades-keep : Progress anc n s′
-  fades-keep = record {
+  pub by-loss-keeps : Progress anc n s′
+  by-loss-keeps = record {
     heard-old = λ p q l h. still-none q (inv .heard-old p q l (subst (λ (r : Rank). has (r .heard) q ≡ true) (t .ranks-stay p) h));
     report-old = λ q b h. still-none q (inv .report-old q b (t .was up q b h));
     waiting-old = λ p l e. still-none p (inv .waiting-old p l (subst (λ (r : Rank). r .phase ≡ waiting) (t .ranks-stay p) e));

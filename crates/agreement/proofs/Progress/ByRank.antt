@@ -10,7 +10,7 @@ use Rattle.sets.proofs.Laws.Bools.{eq-or-ne}
 use Rattle.tree.specs.Relations.{Ancestry, Chained}
 use Rattle.tree.proofs.Kin.{UnderAChild}
 use Rattle.tree.proofs.Laws.Parents.{no-parent, no-parent-all}
-use Rattle.tree.proofs.Laws.Children.{covered-under, covered-by-root}
+use Rattle.tree.proofs.Laws.Children.{child-above, child-above-all}
 use Rattle.rank.specs.declared.Rank.{Rank}
 use Rattle.rank.specs.declared.Send.{Send}
 use Rattle.rank.specs.Words.{gathering, waiting, decided, up, down}
@@ -67,7 +67,7 @@ module _ (anc : ℕ → ℕ) (tree : Ancestry anc) (chain : Chained anc) (n : �
   -- a rank that is not early, and has heard every child, has nobody new under it
   settled : (Early anc n p (rankAt s′ p) → ⊥) → Complete anc n p (rankAt s′ p) → NoneNew anc n s′ p
   settled late c x (inl e) w = late (subst (λ (y : ℕ). Early anc n y (rankAt s′ y)) e (w .1))
-  settled late c x (inr u) w = go (covered-under anc tree chain n (rankAt s′ p .marks) p x (unmarked t true′ p (own-lives t)) (w .0 .0) (unmarked t true′ x (w .0)) u)
+  settled late c x (inr u) w = go (child-above anc tree chain n (rankAt s′ p .marks) p x (unmarked t true′ p (own-lives t)) (w .0 .0) (unmarked t true′ x (w .0)) u)
     where
       go : UnderAChild anc n (rankAt s′ p .marks) p x → ⊥
       go k = own-heard (k .child) (c (k .child) (k .isChild)) x (k .under) w
@@ -120,7 +120,7 @@ module _ (anc : ℕ → ℕ) (tree : Ancestry anc) (chain : Chained anc) (n : �
       covered : NoParent anc p (rankAt s′ p) → Complete anc n p (rankAt s′ p) → (x ≡ p → ⊥) → ⊥
       covered r h d =
           let o = t .own in
-          let k : UnderAChild anc n (rankAt s′ p .marks) p x = covered-by-root anc tree n (rankAt s′ p .marks) p x (omega arith) r (unmarked t true′ p (own-lives t)) (w .0 .0) (unmarked t true′ x (w .0)) d in
+          let k : UnderAChild anc n (rankAt s′ p .marks) p x = child-above-all anc tree n (rankAt s′ p .marks) p x (omega arith) r (unmarked t true′ p (own-lives t)) (w .0 .0) (unmarked t true′ x (w .0)) d in
           own-heard (k .child) (h (k .child) (k .isChild)) x (k .under) w
 
       stays : rankAt s′ p .phase ≡ decided → ⊥

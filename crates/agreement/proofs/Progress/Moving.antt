@@ -8,11 +8,11 @@ use Rattle.agreement.proofs.Living.{Truthful}
 use Rattle.agreement.proofs.Progress.Invariant.{Progress}
 use Rattle.agreement.proofs.Progress.ByRank.{heard-old′, report-old′, waiting-old′, new-calm′}
 use Rattle.agreement.proofs.Progress.Linking.{held′, polled′}
-use Rattle.agreement.proofs.Progress.ByLoss.{fades-keep}
+use Rattle.agreement.proofs.Progress.ByLoss.{by-loss-keeps}
 
 module _ (anc : ℕ → ℕ) (tree : Ancestry anc) (chain : Chained anc) (n : ℕ) (small : n ≤ 64) (s s′ : State) (true′ : Truthful n s′) (inv : Progress anc n s) where
-  turns-keep : (p kind q : ℕ) (f g : Send) → ByRank anc n s s′ p kind q f g → Progress anc n s′
-  turns-keep p kind q f g t = record {
+  by-rank-keeps : (p kind q : ℕ) (f g : Send) → ByRank anc n s s′ p kind q f g → Progress anc n s′
+  by-rank-keeps p kind q f g t = record {
     heard-old = heard-old′ anc tree chain n small s s′ p kind q f g t true′ inv;
     report-old = report-old′ anc tree chain n small s s′ p kind q f g t true′ inv;
     waiting-old = waiting-old′ anc tree chain n small s s′ p kind q f g t true′ inv;
@@ -22,5 +22,5 @@ module _ (anc : ℕ → ℕ) (tree : Ancestry anc) (chain : Chained anc) (n : �
   }
 
   pub a-move-keeps : (Entry : ℕ → ℕ → Type 0) → Move anc n Entry s s′ → Progress anc n s′
-  a-move-keeps Entry (by-rank p kind q v f g t u) = turns-keep p kind q f g t
-  a-move-keeps Entry (by-loss t) = fades-keep anc n s s′ t inv
+  a-move-keeps Entry (by-rank p kind q v f g t u) = by-rank-keeps p kind q f g t
+  a-move-keeps Entry (by-loss t) = by-loss-keeps anc n s s′ t inv

@@ -36,7 +36,7 @@ module _ (anc : ℕ → ℕ) (n : ℕ) (small : n ≤ 64) where
 -- ---- every reached state
 
 -- The invariant holds in it.
-pub reached-stands : (anc : ℕ → ℕ) → Ancestry anc → Chained anc → (n : ℕ) (s : State) → Reaches anc n s → Progress anc n s
+reached-stands : (anc : ℕ → ℕ) → Ancestry anc → Chained anc → (n : ℕ) (s : State) → Reaches anc n s → Progress anc n s
 reached-stands anc tree chain n = every-reached anc tree n (Progress anc n) (fresh-stands anc n) (λ E s s′ small true′ inv m. a-move-keeps anc tree chain n small s s′ true′ inv E m)
 
 -- With no message in flight, all living ranks in and all deaths known, every living rank has decided.

@@ -1,22 +1,18 @@
--- The lines of a listing: how long they can be, and a number's digits from the first to the last. Assumes nothing.
+-- Lines one after the other, and the room that is left after each part of a listing. Assumes nothing.
 use mathlib.Core.Path.{_≡_, sym, ap, subst}
-use mathlib.Core.Bool.{Bool, true, false, cond}
-use mathlib.Core.List.{List, [], _∷_, _++_}
+use mathlib.Core.List.{List, _++_}
 use Prim.Native.Nat.{ℕ, zero, suc, _+_, _*_, _≤_, _<_}
 use native.Mathlib.Nat.{suc-mul, mul-le-mul-right}
 use native.Mathlib.Numerals.{add-one}
 use native.Mathlib.Omega.{arith}
-use lib.Dec.{eqb}
 use lib.ListN.{length, getD, length-append}
-use borrow.Author.Tests.{eq-eqb, ne-eqb}
-use Rattle.rank.specs.declared.Rank.{Rank}
-use Rattle.rank.specs.Words.{decided}
 use Rattle.state.specs.declared.State.{State}
 use Rattle.state.specs.States.{zeroRank}
-use Rattle.text.specs.Text.{Wrote, decimal, field}
+use Rattle.text.specs.Text.{Wrote}
 use Rattle.text.proofs.Laws.Writing.{wrote-nothing, wrote-then, wrote-kept, wrote-room}
-use Rattle.text.proofs.Laws.Digits.{length-decimal, length-field}
-use Rattle.listing.specs.Listings.{firstLine, eventLine, living, resultField, rankLine, lastLine, lines, rankLines, listing, refusedLine}
+use Rattle.lines.specs.Lines.{firstLine, eventLine, rankLine, lastLine}
+use Rattle.listing.specs.Listings.{lines, rankLines, listing}
+use Rattle.lines.proofs.Laws.Lines.{length-event, length-rank, length-first, length-last}
 
 -- ---- lines of at most m bytes: before line k the first k stand
 
@@ -55,76 +51,8 @@ lining-step f m total text₀ at text next k t a p l w = record {
 pub lining-end : (f : ℕ → List ℕ) (m total : ℕ) (text₀ : List ℕ) (at : ℕ) (text : List ℕ) (next k : ℕ) → Lining f m total text₀ at text next k → total ≤ k → Wrote text₀ at (lines f total) text next
 lining-end f m total text₀ at text next k p l = let e : k ≡ total = omega (arith, p .within) in subst (λ (x : ℕ). Wrote text₀ at (lines f x) text next) e (p .wrote)
 
--- ---- event lines and rank lines
-
-length-event : (answers : List ℕ) (k : ℕ) → length (eventLine answers k) ≤ 44
-unfolding eventLine
-length-event answers k =
-    let a = getD answers (3 * k) 0 in
-    let b = getD answers (3 * k + 1) 0 in
-    let c = getD answers (3 * k + 2) 0 in
-    omega (
-      arith,
-      length-append (decimal k) (field a ++ (field b ++ (field c ++ (10 ∷ [])))),
-      length-append (field a) (field b ++ (field c ++ (10 ∷ []))),
-      length-append (field b) (field c ++ (10 ∷ [])),
-      length-append (field c) (10 ∷ []),
-      length-decimal k,
-      length-field a,
-      length-field b,
-      length-field c,
-    )
-
-pub length-result : (phase result : ℕ) → length (resultField phase result) ≤ 11
-unfolding resultField
-length-result phase result = go (eqb phase decided)
-  where
-    go : (b : Bool) → length (cond b (field result) (32 ∷ 45 ∷ [])) ≤ 11
-    go true = length-field result
-    go false = omega arith
-
-pub result-decided : (text : List ℕ) (at phase result : ℕ) (t : List ℕ) (a : ℕ) → phase ≡ decided → Wrote text at (field result) t a → Wrote text at (resultField phase result) t a
-unfolding resultField
-result-decided text at phase result t a e w = rw (eq-eqb phase decided e) w
-
-pub result-dash : (text : List ℕ) (at phase result : ℕ) (t : List ℕ) (a : ℕ) (u : List ℕ) (b : ℕ) → (phase ≡ decided → ⊥) → Wrote text at (32 ∷ []) t a → Wrote t a (45 ∷ []) u b → Wrote text at (resultField phase result) u b
-unfolding resultField
-result-dash text at phase result t a u b d v w = rw (ne-eqb phase decided d) (wrote-then v w)
-
-pub length-rank : (dead i : ℕ) (r : Rank) → length (rankLine dead i r) ≤ 46
-unfolding rankLine
-length-rank dead i r =
-    let a = living dead i in
-    let d = resultField (r .phase) (r .result) in
-    omega (
-      arith,
-      length-append (field i) (field a ++ (field (r .phase) ++ (d ++ (10 ∷ [])))),
-      length-append (field a) (field (r .phase) ++ (d ++ (10 ∷ []))),
-      length-append (field (r .phase)) (d ++ (10 ∷ [])),
-      length-append d (10 ∷ []),
-      length-field i,
-      length-field a,
-      length-field (r .phase),
-      length-result (r .phase) (r .result),
-    )
-
 pub events-start : (answers text : List ℕ) (at events : ℕ) → at + 44 * events ≤ length text → Lining (eventLine answers) 44 events text at text at 0
 events-start answers text at events r = lining-start (eventLine answers) 44 events text at (length-event answers) (omega arith)
-
--- ---- the room that a listing takes
-
-length-first : (n events : ℕ) → length (firstLine n events) ≤ 37
-unfolding firstLine
-length-first n events =
-    omega (
-      arith,
-      length-append (field 1) (field n ++ (field events ++ (10 ∷ []))),
-      length-append (field n) (field events ++ (10 ∷ [])),
-      length-append (field events) (10 ∷ []),
-      length-field 1,
-      length-field n,
-      length-field events,
-    )
 
 pub room-events : (text : List ℕ) (n events : ℕ) (t : List ℕ) (a : ℕ) → 50 + 44 * events + 46 * n ≤ length text → Wrote text 0 (firstLine n events) t a → a + 44 * events + (46 * n + 13) ≤ length t
 room-events text n events t a r w = omega (arith, wrote-room 37 (44 * events + (46 * n + 13)) w (length-first n events) (omega arith))
@@ -134,14 +62,6 @@ room-ranks text at answers n events t a r w = wrote-room (events * 44) (46 * n +
 
 pub room-last : (text : List ℕ) (at : ℕ) (f : ℕ → List ℕ) (n : ℕ) (t : List ℕ) (a : ℕ) → ((i : ℕ) → length (f i) ≤ 46) → at + (46 * n + 13) ≤ length text → Wrote text at (lines f n) t a → a + 13 ≤ length t
 room-last text at f n t a h r w = wrote-room (n * 46) 13 w (length-lines f 46 n h) (omega arith)
-
-length-last : (count : ℕ) → length (lastLine count) ≤ 13
-unfolding lastLine
-length-last count = omega (arith, length-append (field count) (10 ∷ []), length-field count)
-
-pub length-refused : (number : ℕ) → length (refusedLine number) ≤ 19
-unfolding refusedLine
-length-refused number = omega (arith, length-append (field number) (10 ∷ []), length-field number)
 
 pub length-listing : (events : ℕ) (answers : List ℕ) (s : State) → length (listing events answers s) ≤ 50 + 44 * events + 46 * s .group .n
 unfolding listing rankLines

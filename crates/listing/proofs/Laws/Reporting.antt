@@ -16,8 +16,10 @@ use Rattle.text.proofs.Laws.Writing.{wrote-kept}
 use Rattle.files.specs.Files.{eventsIn}
 use Rattle.schedule.specs.Runs.{run}
 use Rattle.schedule.proofs.Laws.Ending.{run-ended}
-use Rattle.listing.specs.Listings.{listing, refusedLine, reportOf, report}
-use Rattle.listing.proofs.Laws.Lines.{length-refused, length-listing}
+use Rattle.lines.specs.Lines.{refusedLine}
+use Rattle.listing.specs.Listings.{listing, reportOf, report}
+use Rattle.lines.proofs.Laws.Lines.{length-refused}
+use Rattle.listing.proofs.Laws.Lines.{length-listing}
 
 -- ---- the report along its code
 

@@ -2,7 +2,8 @@
 use native.Mathlib.Omega.{arith}
 use borrow.Author.Needs.{needs}
 use Rattle.text.proofs.Laws.Writing.{wrote-then}
-use Rattle.listing.proofs.Laws.Lines.{room-events, room-ranks, room-last, length-rank}
+use Rattle.lines.proofs.Laws.Lines.{length-rank}
+use Rattle.listing.proofs.Laws.Lines.{room-events, room-ranks, room-last}
 use Rattle.listing.specs.Listings.{rankLines, listing}
 use Rattle.listing.proofs.list.Statement.{statement}
 use Rattle.listing.proofs.list.Tie as tie

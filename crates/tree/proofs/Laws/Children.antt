@@ -253,10 +253,10 @@ further : (anc : ℕ → ℕ) → Ancestry anc → (n marks p r x : ℕ) → Abo
 further anc tree n marks p r x u c = record { child = c .child; isChild = c .isChild; under = under-through anc tree (c .child) r x u (c .under) }
 
 -- T1: an unmarked rank under p stands under a child of p, or is one. The first number bounds x.
-covers : (anc : ℕ → ℕ) → Ancestry anc → Chained anc → (n marks p d x : ℕ) → Free marks p → x ≤ d → x < n → Free marks x → Above anc x p → UnderAChild anc n marks p x
-covers anc tree chain n marks p zero x fp b l f u = absurd (omega (arith, tree .smaller x p u))
-covers anc tree chain n marks p (suc d) x fp b l f u =
-    go (λ r. covers anc tree chain n marks p d r fp) (parent anc marks x) refl (parent-cases anc marks x)
+child-found : (anc : ℕ → ℕ) → Ancestry anc → Chained anc → (n marks p d x : ℕ) → Free marks p → x ≤ d → x < n → Free marks x → Above anc x p → UnderAChild anc n marks p x
+child-found anc tree chain n marks p zero x fp b l f u = absurd (omega (arith, tree .smaller x p u))
+child-found anc tree chain n marks p (suc d) x fp b l f u =
+    go (λ r. child-found anc tree chain n marks p d r fp) (parent anc marks x) refl (parent-cases anc marks x)
   where
     on : ((r : ℕ) → r ≤ d → r < n → Free marks r → Above anc r p → UnderAChild anc n marks p r) → (r : ℕ) → parent anc marks x ≡ r → r < x → Above anc x r → Free marks r → (r < p → Marked marks p) → UnderAChild anc n marks p x
     on rest r e m v g h =
@@ -270,14 +270,14 @@ covers anc tree chain n marks p (suc d) x fp b l f u =
     go rest r e (lowest m g h v) = absurd (clash (has marks p) (v p (tree .smaller x p u) u) fp)
     go rest r e (nobody h) = absurd (clash (has marks p) (h p (tree .smaller x p u)) fp)
 
-pub covered-under : (anc : ℕ → ℕ) → Ancestry anc → Chained anc → (n marks p x : ℕ) → Free marks p → x < n → Free marks x → Above anc x p → UnderAChild anc n marks p x
-covered-under anc tree chain n marks p x fp l f u = covers anc tree chain n marks p x x fp (omega arith) l f u
+pub child-above : (anc : ℕ → ℕ) → Ancestry anc → Chained anc → (n marks p x : ℕ) → Free marks p → x < n → Free marks x → Above anc x p → UnderAChild anc n marks p x
+child-above anc tree chain n marks p x fp l f u = child-found anc tree chain n marks p x x fp (omega arith) l f u
 
 -- T2: where p has no parent, every other unmarked rank does.
-covers-all : (anc : ℕ → ℕ) → Ancestry anc → (n marks p d x : ℕ) → p ≤ none → parent anc marks p ≡ none → Free marks p → x ≤ d → x < n → Free marks x → (x ≡ p → ⊥) → UnderAChild anc n marks p x
-covers-all anc tree n marks p zero x s root fp b l f o = absurd (omega (arith, root-least anc marks p x s root f o))
-covers-all anc tree n marks p (suc d) x s root fp b l f o =
-    go (λ r. covers-all anc tree n marks p d r s root fp) (parent anc marks x) refl (parent-cases anc marks x)
+child-found-by-root : (anc : ℕ → ℕ) → Ancestry anc → (n marks p d x : ℕ) → p ≤ none → parent anc marks p ≡ none → Free marks p → x ≤ d → x < n → Free marks x → (x ≡ p → ⊥) → UnderAChild anc n marks p x
+child-found-by-root anc tree n marks p zero x s root fp b l f o = absurd (omega (arith, root-least anc marks p x s root f o))
+child-found-by-root anc tree n marks p (suc d) x s root fp b l f o =
+    go (λ r. child-found-by-root anc tree n marks p d r s root fp) (parent anc marks x) refl (parent-cases anc marks x)
   where
     p<x : p < x
     p<x = root-least anc marks p x s root f o
@@ -289,5 +289,5 @@ covers-all anc tree n marks p (suc d) x s root fp b l f o =
         ⊎-elim (λ (q : r ≡ p). itself anc n marks p x l f (e ∙ q)) (λ (q : r ≡ p → ⊥). absurd (clash (has marks p) (h p (root-least anc marks p r s root g q)) fp)) (eq-or-ne r p)
     go rest r e (nobody h) = absurd (clash (has marks p) (h p p<x) fp)
 
-pub covered-by-root : (anc : ℕ → ℕ) → Ancestry anc → (n marks p x : ℕ) → p ≤ none → parent anc marks p ≡ none → Free marks p → x < n → Free marks x → (x ≡ p → ⊥) → UnderAChild anc n marks p x
-covered-by-root anc tree n marks p x s root fp l f o = covers-all anc tree n marks p x x s root fp (omega arith) l f o
+pub child-above-all : (anc : ℕ → ℕ) → Ancestry anc → (n marks p x : ℕ) → p ≤ none → parent anc marks p ≡ none → Free marks p → x < n → Free marks x → (x ≡ p → ⊥) → UnderAChild anc n marks p x
+child-above-all anc tree n marks p x s root fp l f o = child-found-by-root anc tree n marks p x x s root fp (omega arith) l f o

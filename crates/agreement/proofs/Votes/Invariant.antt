@@ -35,7 +35,7 @@ module _ (anc : ℕ → ℕ) (n : ℕ) where
   abbrev pub Own : State → ℕ → ℕ → Type 0
   Own s p x = ((x ≡ p) × (rankAt s p .phase ≡ outside → ⊥)) ⊎ (Lives n s x × (HeardOf (rankAt s p) x ⊎ ((rankAt s p .phase ≡ waiting) × Under anc p x)))
 
-  pub record Coverage (words : ℕ → ℕ) (s : State) : Type 0 where
+  pub record Votes (words : ℕ → ℕ) (s : State) : Type 0 where
     pub own-word : (p : ℕ) → p < n → Combines n words s (Own s p) (rankAt s p .word)
     pub reports : (q b w : ℕ) → Carries s up q b w → Combines n words s (λ x. Lives n s x × Under anc q x) w
     pub results : (p : ℕ) → p < n → rankAt s p .phase ≡ decided → Combines n words s (Lives n s) (rankAt s p .result)

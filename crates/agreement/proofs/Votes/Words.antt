@@ -11,7 +11,7 @@ use Rattle.rank.specs.Words.{allBits, combine}
 use Rattle.rank.proofs.Laws.Words.{combine-self, combine-assoc, combine-again, combine-swap, combine-twice}
 use Rattle.state.specs.declared.State.{State}
 use Rattle.agreement.specs.Agreement.{andOf}
-use Rattle.agreement.proofs.Coverage.Invariant.{Entered, Combines}
+use Rattle.agreement.proofs.Votes.Invariant.{Entered, Combines}
 
 -- ---- the AND of a set
 

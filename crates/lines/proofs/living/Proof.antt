@@ -1,9 +1,9 @@
 -- `living` meets its contract: one test. Assumes nothing.
 use mathlib.Core.Path.{sym, _∙_}
 use borrow.Author.Needs.{needs}
-use Rattle.listing.specs.Listings.{living}
-use Rattle.listing.proofs.living.Statement.{statement}
-use Rattle.listing.proofs.living.Tie as tie
+use Rattle.lines.specs.Lines.{living}
+use Rattle.lines.proofs.living.Statement.{statement}
+use Rattle.lines.proofs.living.Tie as tie
 
 member-requires : tie.Need-member-requires
 member-requires c κs = search needs

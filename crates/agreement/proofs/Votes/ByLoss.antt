@@ -9,11 +9,11 @@ use Rattle.state.specs.declared.State.{State}
 use Rattle.group.proofs.Moves.{ByLoss}
 use Rattle.agreement.specs.Progress.{Lives}
 use Rattle.agreement.proofs.Living.{faded}
-use Rattle.agreement.proofs.Coverage.Invariant.{Entered, Combines, HeardOf, Own, Coverage}
-use Rattle.agreement.proofs.Coverage.Words.{combines-on}
+use Rattle.agreement.proofs.Votes.Invariant.{Entered, Combines, HeardOf, Own, Votes}
+use Rattle.agreement.proofs.Votes.Words.{combines-on}
 
 module _ (anc : ℕ → ℕ) (n : ℕ) (s s′ : State) (t : ByLoss s s′) (words words′ : ℕ → ℕ)
-    (keeps : (i : ℕ) → Entered n s i → words′ i ≡ words i) (inv : Coverage anc n words s) where
+    (keeps : (i : ℕ) → Entered n s i → words′ i ≡ words i) (inv : Votes anc n words s) where
   stays-in : (i : ℕ) → Entered n s i → Entered n s′ i
   stays-in i e = (e .0, λ h. e .1 (subst (λ (r : Rank). r .phase ≡ outside) (t .ranks-stay i) h))
 
@@ -21,8 +21,8 @@ module _ (anc : ℕ → ℕ) (n : ℕ) (s s′ : State) (t : ByLoss s s′) (wor
   was-own p x (inl h) = inl (h .0, subst (λ (r : Rank). r .phase ≡ outside → ⊥) (t .ranks-stay p) (h .1))
   was-own p x (inr h) = inr (faded t x (h .0), subst (λ (r : Rank). HeardOf anc n r x ⊎ ((r .phase ≡ waiting) × Under anc p x)) (t .ranks-stay p) (h .1))
 
-  pub fades-cover : Coverage anc n words′ s′
-  fades-cover = record {
+  pub by-loss-votes : Votes anc n words′ s′
+  by-loss-votes = record {
     own-word = λ p l. combines-on keeps stays-in (was-own p) (subst (λ (r : Rank). Combines n words s (Own anc n s p) (r .word)) (sym (t .ranks-stay p)) (inv .own-word p l));
     reports = λ q b w h. combines-on keeps stays-in (λ x m. (faded t x (m .0), m .1)) (inv .reports q b w (t .was-word up q b w h));
     results = λ p l e.

@@ -2,9 +2,9 @@
 use native.Mathlib.Omega.{arith}
 use borrow.Author.Needs.{needs}
 use Rattle.text.proofs.Laws.Writing.{wrote-room}
-use Rattle.listing.proofs.Laws.Lines.{result-decided, result-dash}
-use Rattle.listing.proofs.put_result.Statement.{statement}
-use Rattle.listing.proofs.put_result.Tie as tie
+use Rattle.lines.proofs.Laws.Lines.{result-decided, result-dash}
+use Rattle.lines.proofs.put_result.Statement.{statement}
+use Rattle.lines.proofs.put_result.Tie as tie
 
 put-field-requires : tie.Need-put-field-requires
 put-field-requires c κs = search needs

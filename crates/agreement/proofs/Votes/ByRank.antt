@@ -10,7 +10,7 @@ use Rattle.sets.specs.Sets.{has}
 use Rattle.sets.proofs.Laws.Bools.{eq-or-ne}
 use Rattle.tree.specs.Relations.{Ancestry, Chained}
 use Rattle.tree.proofs.Kin.{Under, UnderAChild}
-use Rattle.tree.proofs.Laws.Children.{covered-under, covered-by-root}
+use Rattle.tree.proofs.Laws.Children.{child-above, child-above-all}
 use Rattle.rank.specs.declared.Rank.{Rank}
 use Rattle.rank.specs.declared.Send.{Send}
 use Rattle.rank.specs.Words.{outside, waiting, decided, up, down, combine}
@@ -22,13 +22,13 @@ use Rattle.state.specs.States.{rankAt}
 use Rattle.group.proofs.Moves.{Carries, ByRank, ByRankInWords}
 use Rattle.agreement.specs.Progress.{Lives}
 use Rattle.agreement.proofs.Living.{Truthful, lived, own-lives, unmarked}
-use Rattle.agreement.proofs.Coverage.Invariant.{Entered, Combines, HeardOf, Own, Coverage}
-use Rattle.agreement.proofs.Coverage.Words.{combines-on, combines-fewer, combines-both, combines-more}
+use Rattle.agreement.proofs.Votes.Invariant.{Entered, Combines, HeardOf, Own, Votes}
+use Rattle.agreement.proofs.Votes.Words.{combines-on, combines-fewer, combines-both, combines-more}
 
 module _ (anc : ℕ → ℕ) (tree : Ancestry anc) (chain : Chained anc) (n : ℕ) (small : n ≤ 64) (Entry : ℕ → ℕ → Type 0) (s s′ : State) (p kind q v : ℕ) (f g : Send)
     (t : ByRank anc n s s′ p kind q f g) (u : ByRankInWords anc n Entry s s′ p kind q v f g) (true′ : Truthful n s′) (words words′ : ℕ → ℕ)
     (votes : Entry p v → words′ p ≡ v) (keeps : (i : ℕ) → Entered n s i → words′ i ≡ words i)
-    (inv : Coverage anc n words s) where
+    (inv : Votes anc n words s) where
   -- whoever has entered is never outside again
   stays-in : (i : ℕ) → Entered n s i → Entered n s′ i
   stays-in i e = (e .0, λ h. e .1 (go h (eq-or-ne i p)))
@@ -88,7 +88,7 @@ module _ (anc : ℕ → ℕ) (tree : Ancestry anc) (chain : Chained anc) (n : �
       go d (inl e) = inr (l, inr (e, d))
       go (inl e) (inr c) = inl (e, λ z. omega arith)
       go (inr a) (inr c) =
-          let k : UnderAChild anc n (rankAt s′ p .marks) p x = covered-under anc tree chain n (rankAt s′ p .marks) p x (unmarked t true′ p (own-lives t)) (l .0) (unmarked t true′ x l) a in
+          let k : UnderAChild anc n (rankAt s′ p .marks) p x = child-above anc tree chain n (rankAt s′ p .marks) p x (unmarked t true′ p (own-lives t)) (l .0) (unmarked t true′ x l) a in
           inr (l, inl (k .child, c (k .child) (k .isChild), k .under))
 
   own : Combines n words′ s′ (Own anc n s′ p) (rankAt s′ p .word)
@@ -124,7 +124,7 @@ module _ (anc : ℕ → ℕ) (tree : Ancestry anc) (chain : Chained anc) (n : �
       go (inl e) = inl (e, λ z. omega arith)
       go (inr y) =
           let o = t .own in
-          let k : UnderAChild anc n (rankAt s′ p .marks) p x = covered-by-root anc tree n (rankAt s′ p .marks) p x (omega arith) r (unmarked t true′ p (own-lives t)) (l .0) (unmarked t true′ x l) y in
+          let k : UnderAChild anc n (rankAt s′ p .marks) p x = child-above-all anc tree n (rankAt s′ p .marks) p x (omega arith) r (unmarked t true′ p (own-lives t)) (l .0) (unmarked t true′ x l) y in
           inr (l, inl (k .child, c (k .child) (k .isChild), k .under))
 
   own-result : rankAt s′ p .phase ≡ decided → Combines n words′ s′ (Lives n s′) (rankAt s′ p .result)
@@ -151,5 +151,5 @@ module _ (anc : ℕ → ℕ) (tree : Ancestry anc) (chain : Chained anc) (n : �
       go (inl c) = combines-on keeps stays-in (lived t) (inv .answers b x w c)
       go (inr (e, z)) = subst (Combines n words′ s′ (Lives n s′)) (sym (u .speech .down-to w x z .1)) (own-result (t .turn .down-decided x (any-word f g down w x z)))
 
-  pub turn-covers : Coverage anc n words′ s′
-  turn-covers = record { own-word = own-word′; reports = reports′; results = results′; answers = answers′ }
+  pub by-rank-votes : Votes anc n words′ s′
+  by-rank-votes = record { own-word = own-word′; reports = reports′; results = results′; answers = answers′ }

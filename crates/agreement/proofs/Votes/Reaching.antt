@@ -26,10 +26,10 @@ use Rattle.group.proofs.Laws.Reached.{reached-small, reached-in-order}
 use Rattle.agreement.specs.Agreement.{isEntry, hasEntered, wordOf}
 use Rattle.agreement.proofs.Living.{Truthful}
 use Rattle.agreement.proofs.Running.{quiet, all-outside, all-ones, none-heard, reached-truthful, reached-moves}
-use Rattle.agreement.proofs.Coverage.Invariant.{Entered, Own, Coverage}
-use Rattle.agreement.proofs.Coverage.Words.{andOf-none}
-use Rattle.agreement.proofs.Coverage.ByRank.{turn-covers}
-use Rattle.agreement.proofs.Coverage.ByLoss.{fades-cover}
+use Rattle.agreement.proofs.Votes.Invariant.{Entered, Own, Votes}
+use Rattle.agreement.proofs.Votes.Words.{andOf-none}
+use Rattle.agreement.proofs.Votes.ByRank.{by-rank-votes}
+use Rattle.agreement.proofs.Votes.ByLoss.{by-loss-votes}
 
 -- ---- every move
 
@@ -49,10 +49,10 @@ module _ (anc : ℕ → ℕ) (n : ℕ) (Entry : ℕ → ℕ → Type 0) (s s′ 
       go (inr d) = inl (e .0, subst (λ (r : Rank). r .phase ≡ outside → ⊥) (t .others i d) (e .1))
 
 -- The words of ranks that had entered stay, and a rank that enters has its word.
-pub a-move-covers : (anc : ℕ → ℕ) → Ancestry anc → Chained anc → (n : ℕ) → n ≤ 64 → (Entry : ℕ → ℕ → Type 0) (s s′ : State) → Truthful n s′ → (words words′ : ℕ → ℕ)
-    → ((p v : ℕ) → Entry p v → words′ p ≡ v) → ((i : ℕ) → Entered n s i → words′ i ≡ words i) → Coverage anc n words s → Move anc n Entry s s′ → Coverage anc n words′ s′
-a-move-covers anc tree chain n small Entry s s′ true′ words words′ votes keeps inv (by-rank p kind q v f g t u) = turn-covers anc tree chain n small Entry s s′ p kind q v f g t u true′ words words′ (votes p v) keeps inv
-a-move-covers anc tree chain n small Entry s s′ true′ words words′ votes keeps inv (by-loss t) = fades-cover anc n s s′ t words words′ keeps inv
+pub a-move-keeps-votes : (anc : ℕ → ℕ) → Ancestry anc → Chained anc → (n : ℕ) → n ≤ 64 → (Entry : ℕ → ℕ → Type 0) (s s′ : State) → Truthful n s′ → (words words′ : ℕ → ℕ)
+    → ((p v : ℕ) → Entry p v → words′ p ≡ v) → ((i : ℕ) → Entered n s i → words′ i ≡ words i) → Votes anc n words s → Move anc n Entry s s′ → Votes anc n words′ s′
+a-move-keeps-votes anc tree chain n small Entry s s′ true′ words words′ votes keeps inv (by-rank p kind q v f g t u) = by-rank-votes anc tree chain n small Entry s s′ p kind q v f g t u true′ words words′ (votes p v) keeps inv
+a-move-keeps-votes anc tree chain n small Entry s s′ true′ words words′ votes keeps inv (by-loss t) = by-loss-votes anc n s s′ t words words′ keeps inv
 
 -- ---- a fresh group
 
@@ -62,8 +62,8 @@ module _ (anc : ℕ → ℕ) (n : ℕ) (small : n ≤ 64) (words : ℕ → ℕ) 
   nobody p l x (inr (lx, inl (c, h, k))) = none-heard anc n small p c l h
   nobody p l x (inr (lx, inr (h, k))) = omega (arith, all-outside anc n small p l)
 
-  fresh-covers : Coverage anc n words (freshState anc n)
-  fresh-covers = record {
+  fresh-votes : Votes anc n words (freshState anc n)
+  fresh-votes = record {
     own-word = λ p l. record { members = 0; entered = λ i h. absurd (clash (has 0 i) h (has-zero i)); contains = λ i h. absurd (nobody p l i h); is-and = all-ones anc n small p l ∙ sym (andOf-none words n) };
     reports = λ q b w h. absurd (quiet anc n small _ q b (h .flies));
     results = λ p l e. absurd (omega (arith, all-outside anc n small p l));
@@ -104,12 +104,12 @@ entered-in-the-run anc tree n s (begun z) i e = absurd (e .1 (subst (λ (x : Sta
 entered-in-the-run anc tree n s (next s′ kind a b run z) i e =
     entry-counts anc n s′ kind a b run z i (was-entered anc n (Entry kind a b) s′ (event anc s′ kind a b .state) (reached-moves anc tree n s′ kind a b run z) i e) (λ h. entered-in-the-run anc tree n s′ run i h)
 
-pub reached-covers : (anc : ℕ → ℕ) → Ancestry anc → Chained anc → (n : ℕ) (s : State) (run : Reaches anc n s) → Coverage anc n (wordOf anc n s run) s
-reached-covers anc tree chain n s (begun z) =
-    subst (Coverage anc n (wordOf anc n (started anc n .state) (begun z))) (sym (started-fresh anc n z .1))
-    (fresh-covers anc n (reached-small anc n (started anc n .state) (begun z) .1) (wordOf anc n (started anc n .state) (begun z)))
-reached-covers anc tree chain n s (next s′ kind a b run z) =
-    a-move-covers anc tree chain n (reached-small anc n s′ run .1) (Entry kind a b) s′ (event anc s′ kind a b .state) (reached-truthful anc n (event anc s′ kind a b .state) (next s′ kind a b run z))
+pub reached-votes : (anc : ℕ → ℕ) → Ancestry anc → Chained anc → (n : ℕ) (s : State) (run : Reaches anc n s) → Votes anc n (wordOf anc n s run) s
+reached-votes anc tree chain n s (begun z) =
+    subst (Votes anc n (wordOf anc n (started anc n .state) (begun z))) (sym (started-fresh anc n z .1))
+    (fresh-votes anc n (reached-small anc n (started anc n .state) (begun z) .1) (wordOf anc n (started anc n .state) (begun z)))
+reached-votes anc tree chain n s (next s′ kind a b run z) =
+    a-move-keeps-votes anc tree chain n (reached-small anc n s′ run .1) (Entry kind a b) s′ (event anc s′ kind a b .state) (reached-truthful anc n (event anc s′ kind a b .state) (next s′ kind a b run z))
     (wordOf anc n s′ run) (wordOf anc n (event anc s′ kind a b .state) (next s′ kind a b run z))
     (votes-word anc n s′ kind a b run z) (word-stays anc n s′ kind a b run z)
-    (reached-covers anc tree chain n s′ run) (reached-moves anc tree n s′ kind a b run z)
+    (reached-votes anc tree chain n s′ run) (reached-moves anc tree n s′ kind a b run z)

@@ -1,0 +1,91 @@
+-- How long a line may be, and a result along its code. Assumes nothing.
+use mathlib.Core.Path.{_≡_}
+use mathlib.Core.Bool.{Bool, true, false, cond}
+use mathlib.Core.List.{List, [], _∷_, _++_}
+use Prim.Native.Nat.{ℕ, _+_, _*_, _≤_}
+use native.Mathlib.Omega.{arith}
+use lib.Dec.{eqb}
+use lib.ListN.{length, getD, length-append}
+use borrow.Author.Tests.{eq-eqb, ne-eqb}
+use Rattle.rank.specs.declared.Rank.{Rank}
+use Rattle.rank.specs.Words.{decided}
+use Rattle.text.specs.Text.{Wrote, decimal, field}
+use Rattle.text.proofs.Laws.Writing.{wrote-then}
+use Rattle.text.proofs.Laws.Digits.{length-decimal, length-field}
+use Rattle.lines.specs.Lines.{firstLine, eventLine, living, resultField, rankLine, lastLine, refusedLine}
+
+-- ---- event lines and rank lines
+
+pub length-event : (answers : List ℕ) (k : ℕ) → length (eventLine answers k) ≤ 44
+unfolding eventLine
+length-event answers k =
+    let a = getD answers (3 * k) 0 in
+    let b = getD answers (3 * k + 1) 0 in
+    let c = getD answers (3 * k + 2) 0 in
+    omega (
+      arith,
+      length-append (decimal k) (field a ++ (field b ++ (field c ++ (10 ∷ [])))),
+      length-append (field a) (field b ++ (field c ++ (10 ∷ []))),
+      length-append (field b) (field c ++ (10 ∷ [])),
+      length-append (field c) (10 ∷ []),
+      length-decimal k,
+      length-field a,
+      length-field b,
+      length-field c,
+    )
+
+pub length-result : (phase result : ℕ) → length (resultField phase result) ≤ 11
+unfolding resultField
+length-result phase result = go (eqb phase decided)
+  where
+    go : (b : Bool) → length (cond b (field result) (32 ∷ 45 ∷ [])) ≤ 11
+    go true = length-field result
+    go false = omega arith
+
+pub result-decided : (text : List ℕ) (at phase result : ℕ) (t : List ℕ) (a : ℕ) → phase ≡ decided → Wrote text at (field result) t a → Wrote text at (resultField phase result) t a
+unfolding resultField
+result-decided text at phase result t a e w = rw (eq-eqb phase decided e) w
+
+pub result-dash : (text : List ℕ) (at phase result : ℕ) (t : List ℕ) (a : ℕ) (u : List ℕ) (b : ℕ) → (phase ≡ decided → ⊥) → Wrote text at (32 ∷ []) t a → Wrote t a (45 ∷ []) u b → Wrote text at (resultField phase result) u b
+unfolding resultField
+result-dash text at phase result t a u b d v w = rw (ne-eqb phase decided d) (wrote-then v w)
+
+pub length-rank : (dead i : ℕ) (r : Rank) → length (rankLine dead i r) ≤ 46
+unfolding rankLine
+length-rank dead i r =
+    let a = living dead i in
+    let d = resultField (r .phase) (r .result) in
+    omega (
+      arith,
+      length-append (field i) (field a ++ (field (r .phase) ++ (d ++ (10 ∷ [])))),
+      length-append (field a) (field (r .phase) ++ (d ++ (10 ∷ []))),
+      length-append (field (r .phase)) (d ++ (10 ∷ [])),
+      length-append d (10 ∷ []),
+      length-field i,
+      length-field a,
+      length-field (r .phase),
+      length-result (r .phase) (r .result),
+    )
+
+-- ---- the room that a listing takes
+
+pub length-first : (n events : ℕ) → length (firstLine n events) ≤ 37
+unfolding firstLine
+length-first n events =
+    omega (
+      arith,
+      length-append (field 1) (field n ++ (field events ++ (10 ∷ []))),
+      length-append (field n) (field events ++ (10 ∷ [])),
+      length-append (field events) (10 ∷ []),
+      length-field 1,
+      length-field n,
+      length-field events,
+    )
+
+pub length-last : (count : ℕ) → length (lastLine count) ≤ 13
+unfolding lastLine
+length-last count = omega (arith, length-append (field count) (10 ∷ []), length-field count)
+
+pub length-refused : (number : ℕ) → length (refusedLine number) ≤ 19
+unfolding refusedLine
+length-refused number = omega (arith, length-append (field number) (10 ∷ []), length-field number)
