@@ -1,8 +1,8 @@
--- `rank_cases::act` meets what each rule requires: the row and the awaited set are made fresh. Assumes nothing.
+-- `rank_cases::act::act` meets what each rule requires: the row and the awaited set are made fresh. Assumes nothing.
 use borrow.Author.Needs.{needs}
 use Rattle.rank.proofs.Laws.Acting.{awaited-is}
-use Rattle.rank_cases.proofs.act.Statement.{statement}
-use Rattle.rank_cases.proofs.act.Tie as tie
+use Rattle.rank_cases.proofs.act.act.Statement.{statement}
+use Rattle.rank_cases.proofs.act.act.Tie as tie
 
 returns : tie.Need-returns
 returns c = search needs
@@ -25,47 +25,23 @@ minus-requires c κs = search needs
 enter-requires : tie.Need-enter-requires
 enter-requires c κs = search needs
 
-show-requires : tie.Need-show-requires
-show-requires c κs = search needs
-
 up-requires : tie.Need-up-requires
 up-requires c κs = (search needs, (search awaited-is, search needs))
-
-show-requires-2 : tie.Need-show-requires-2
-show-requires-2 c κs = search needs
 
 down-requires : tie.Need-down-requires
 down-requires c κs = search needs
 
-show-requires-3 : tie.Need-show-requires-3
-show-requires-3 c κs = search needs
-
 ask-requires : tie.Need-ask-requires
 ask-requires c κs = search needs
-
-show-requires-4 : tie.Need-show-requires-4
-show-requires-4 c κs = search needs
 
 notice-requires : tie.Need-notice-requires
 notice-requires c κs = search needs
 
-show-requires-5 : tie.Need-show-requires-5
-show-requires-5 c κs = search needs
+show-requires : tie.Need-show-requires
+show-requires c κs = search needs
 
 returns-4 : tie.Need-returns-4
 returns-4 c = search needs
-
-returns-5 : tie.Need-returns-5
-returns-5 c = search needs
-
-returns-6 : tie.Need-returns-6
-returns-6 c = search needs
-
-returns-7 : tie.Need-returns-7
-returns-7 c = search needs
-
-returns-8 : tie.Need-returns-8
-returns-8 c = search needs
 
 pub act-spec : {M : Type 1} → statement M
 act-spec =
@@ -78,17 +54,9 @@ act-spec =
     children-of-requires
     minus-requires
     enter-requires
-    show-requires
     up-requires
-    show-requires-2
     down-requires
-    show-requires-3
     ask-requires
-    show-requires-4
     notice-requires
-    show-requires-5
-    returns-4
-    returns-5
-    returns-6
-    returns-7
-    returns-8)
+    show-requires
+    returns-4)

@@ -1,8 +1,8 @@
--- `rank_cases::members` is safe and ends: k is at most 64. Assumes nothing.
+-- `rank_cases::show::members` is safe and ends: k is at most 64. Assumes nothing.
 use Prim.Native.Nat.{_≤_, _-_}
 use borrow.Author.Needs.{needs}
-use Rattle.rank_cases.proofs.members.Statement.{statement}
-use Rattle.rank_cases.proofs.members.Tie as tie
+use Rattle.rank_cases.proofs.show.members.Statement.{statement}
+use Rattle.rank_cases.proofs.show.members.Tie as tie
 
 abbrev Inv-loop : tie.InvT-loop
 Inv-loop w k₀ k = k ≤ 64

@@ -1,0 +1,31 @@
+// The commands that act: s starts a group of the last number, e is an event of the last three, any other changes the state by hand.
+use super::by_hand;
+use super::script::Reader;
+use group::Stepped;
+use state::State;
+
+pub fn start(n: u32) -> Stepped {
+    let r = state::start(n);
+    let state = r.state;
+    Stepped {
+        answer: r.answer,
+        sent: 0,
+        moved: 0,
+        state,
+    }
+}
+
+fn with_state(t: Stepped, state: State) -> Stepped {
+    let mut u = t;
+    u.state = state;
+    u
+}
+
+pub fn obey(t: Stepped, r: Reader, b: u8) -> Stepped {
+    let s = t.state;
+    match b {
+        b's' => start(r.z),
+        b'e' => group::event(s, r.x, r.y, r.z),
+        _ => with_state(t, by_hand::after(s, r, b)),
+    }
+}
