@@ -4,7 +4,7 @@ use mathlib.Core.Bool.{cond}
 use mathlib.Core.List.{List, _++_}
 use lib.Dec.{eqb}
 use lib.ListN.{set}
-use Rattle.sets.specs.Sets.{add, count}
+use Rattle.sets.specs.Sets.{add}
 use Rattle.tree.specs.Refusals.{accepted, badSize, notInOrder}
 use Rattle.tree.specs.Calls.{wrongSize}
 use Rattle.rank.specs.declared.Message.{Message}

@@ -74,5 +74,8 @@ fn group_after(g: Group, r: Reader, b: u8) -> Group {
 
 pub fn after(s: State, r: Reader, b: u8) -> State {
     let g = s.group;
-    state::join(group_after(g, r, b), tables_after(state::tables_of(s), r, b))
+    state::join(
+        group_after(g, r, b),
+        tables_after(state::tables_of(s), r, b),
+    )
 }

@@ -6,7 +6,7 @@ use Rattle.sets.specs.Sets.{has}
 use Rattle.rank.specs.declared.Message.{Message}
 use Rattle.rank.specs.Words.{up, ask}
 
--- The same in facts. A message in flight:
+-- A message in flight.
 pub record MessageInOrder (n dead : ℕ) (m : Message) : Type 0 where
   pub from-in : m .from < n
   pub to-in : m .to < n

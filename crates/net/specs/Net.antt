@@ -1,8 +1,7 @@
 -- The list of messages in flight. A record keeps it in 128 places: the messages in order, then zeros.
-use Prim.Native.Nat.{ℕ, suc, _-_, _+_}
+use Prim.Native.Nat.{ℕ, suc, _-_}
 use mathlib.Core.List.{List, _++_}
 use lib.ListN.{length, take, drop, replicate}
-use Rattle.sets.specs.Sets.{count}
 use Rattle.rank.specs.declared.Message.{Message}
 use Rattle.rank.specs.declared.Send.{Send}
 use Rattle.rank.specs.Sends.{letters}

@@ -13,7 +13,7 @@ pub record Shaped (s : State) : Type 0 where
   pub rows-long : length (s .tables) ≡ 64
   pub net-long : length (s .group .net) ≡ inFlight
 
--- A state in order.
+-- A state in order, of this shape.
 pub record InOrder (anc : ℕ → ℕ) (s : State) : Type 0 where
   pub shaped : Shaped s
   pub tested : inOrder anc s ≡ true

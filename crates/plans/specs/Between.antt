@@ -7,7 +7,7 @@ use Rattle.rank.specs.declared.Message.{Message}
 use Rattle.rank.specs.Between.{FreshRow}
 use Rattle.rank.specs.Records.{awaiting}
 
--- What the calls between layers need, in facts. A rank that an event is about, with its row, and the message at the place:
+-- Its row and its awaited set are the fresh ones, and the message at the place comes from a rank of the group.
 pub record FreshSubject (anc : ℕ → ℕ) (n : ℕ) (m : Message) (me : ℕ) (r : Rank) (row : List ℕ) : Type 0 where
   pub fresh-row : FreshRow anc n me r row
   pub awaits : r .awaited ≡ awaiting anc n me (r .marks) (r .heard)

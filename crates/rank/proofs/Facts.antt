@@ -11,7 +11,7 @@ use Rattle.rank.specs.declared.Acted.{Acted}
 use Rattle.rank.specs.Words.{outside, gathering, waiting, decided, up, ask}
 use Rattle.rank.specs.Records.{parentOf, awaiting}
 
--- The same in facts. A set of ranks below n without the rank me:
+-- A set of ranks below n without the rank me.
 pub record Within (n me w : ℕ) : Type 0 where
   pub inside : (k : ℕ) → has w k ≡ true → k < n
   pub without : has w me ≡ false

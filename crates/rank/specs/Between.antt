@@ -5,7 +5,7 @@ use mathlib.Core.List.{List}
 use Rattle.tree.specs.Tree.{fresh}
 use Rattle.rank.specs.declared.Rank.{Rank}
 
--- What the calls between layers need of a rank and its row.
+-- It is a rank of the group, and its row is the fresh table of its view.
 pub record FreshRow (anc : ℕ → ℕ) (n me : ℕ) (r : Rank) (row : List ℕ) : Type 0 where
   pub size : n ≤ 64
   pub own : me < n

@@ -55,5 +55,12 @@ fn act(before: Rank, n: u8, me: u8, rule: u8, q: u8, x: u32) {
 
 // A command: the rule's letter, q and x; me, n, the phase, the marks, heard, owed, word and result.
 pub fn obey(c: Command) {
-    act(described(c), small(c, 3), small(c, 2), c.letter, small(c, 0), number(c, 1));
+    act(
+        described(c),
+        small(c, 3),
+        small(c, 2),
+        c.letter,
+        small(c, 0),
+        number(c, 1),
+    );
 }

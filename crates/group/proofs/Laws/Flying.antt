@@ -5,7 +5,7 @@ use mathlib.Core.List.{List, _++_}
 use mathlib.Core.Logic.{_⊎_, inl, inr, ⊎-elim}
 use Prim.Native.Nat.{ℕ, _+_, _<_}
 use lib.ListN.{getD}
-use Rattle.sets.specs.Sets.{has, listed}
+use Rattle.sets.specs.Sets.{has}
 use Rattle.rank.specs.declared.Send.{Send}
 use Rattle.rank.specs.declared.Message.{Message}
 use Rattle.rank.specs.Sends.{letters}

@@ -9,7 +9,7 @@ use lib.Dec.{eqb}
 use lib.ListN.{length, getD}
 use lib.Seq.{getD-take, getD-set-same, getD-set-other}
 use borrow.Author.Tests.{eq-eqb, ne-eqb}
-use Rattle.sets.specs.Sets.{has, add, listed}
+use Rattle.sets.specs.Sets.{has, add}
 use Rattle.sets.proofs.Laws.Bools.{clash, eq-or-ne, cond-false}
 use Rattle.sets.proofs.Laws.Members.{has-add-more}
 use Rattle.tree.specs.Relations.{Ancestry}

@@ -1,5 +1,4 @@
--- Which deaths each rank knows after an accepted event: a notice adds one to its rank's, an ASK that is taken every rank below its sender
--- to its receiver's, and nothing else adds any. Over any ancestor sets. Assumes nothing.
+-- What an accepted step has its rank do. Over any ancestor sets. Assumes nothing.
 use mathlib.Core.Path.{_≡_, ap, _∙_}
 use Prim.Native.Nat.{ℕ}
 use native.Mathlib.Omega.{arith}

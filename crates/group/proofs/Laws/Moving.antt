@@ -95,7 +95,7 @@ module _ (anc : ℕ → ℕ) (s : State) (o : InOrder anc s) (kind a b : ℕ) (z
   rows-stay e j =
       ⊎-elim (λ (q : j ≡ subjectOf s kind a). subst (λ (i : ℕ). rowAt (event anc s kind a b .state) i ≡ rowAt s i) (sym q) (subject-stays e)) (λ (q : j ≡ subjectOf s kind a → ⊥). others-stay j q .1) (eq-or-ne j (subjectOf s kind a))
 
-  -- a message that is delivered is a lawful one
+  -- a message that is delivered is in order
   delivered-in-order : kind ≡ 2 → MessageInOrder (s .group .n) (s .group .dead) (placeAt s a)
   delivered-in-order k = facts .message a (clean-place _ _ _ _ _ _ _ _ (step-taken anc s kind a b accepted-step .clean) (names-a-place kind k))
 

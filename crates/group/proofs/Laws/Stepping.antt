@@ -4,7 +4,7 @@ use mathlib.Core.Path.{_≡_, refl, sym, ap, subst, _∙_}
 use mathlib.Core.Bool.{true, false, cond}
 use mathlib.Core.List.{List, [], _++_}
 use mathlib.Core.Logic.{_⊎_, inl, inr, ⊎-elim}
-use Prim.Native.Nat.{ℕ, _+_, _-_, _≤_, _<_}
+use Prim.Native.Nat.{ℕ, _+_, _≤_, _<_}
 use native.Mathlib.Omega.{arith}
 use lib.Dec.{eqb}
 use lib.ListN.{length, getD, set, take, List·getD-eq-default}
@@ -13,7 +13,7 @@ use Rattle.sets.specs.Sets.{has, add, count}
 use Rattle.sets.proofs.Laws.Bools.{passes-or-fails, lt-or-le}
 use Rattle.tree.specs.Tree.{flat}
 use Rattle.rank.specs.declared.Message.{Message}
-use Rattle.rank.specs.Sends.{letters, size}
+use Rattle.rank.specs.Sends.{letters}
 use Rattle.net.specs.declared.Joined.{Joined}
 use Rattle.net.specs.Net.{inFlight, zeroMessage, padded, without, placed}
 use Rattle.refusals.specs.Refusing.{namesPlace}

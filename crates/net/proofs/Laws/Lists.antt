@@ -1,8 +1,8 @@
--- Lists whose messages are all lawful: parts of one, two in a row, and what a rank posts. Assumes nothing.
-use mathlib.Core.Logic.{⊎-elim}
+-- Lists whose messages are all in order: parts of one, two in a row, and what a rank posts. Assumes nothing.
 use mathlib.Core.Path.{_≡_, refl, sym, ap, subst, _∙_}
 use mathlib.Core.Bool.{true, false}
 use mathlib.Core.List.{List, [], _∷_, _++_}
+use mathlib.Core.Logic.{⊎-elim}
 use Prim.Native.Nat.{ℕ, zero, suc, _+_, _≤_, _<_}
 use native.Mathlib.Nat.{le-dest}
 use native.Mathlib.Omega.{arith}
@@ -19,11 +19,11 @@ use Rattle.rank.proofs.Laws.Letters.{letter-is, length-letters, letter-at}
 use Rattle.net.specs.Net.{without}
 use Rattle.net.proofs.Facts.{MessageInOrder}
 
--- every message of the list is lawful; what stands past its end does not matter
+-- every message of the list is in order; what stands past its end does not matter
 abbrev pub AllInOrder : ℕ → ℕ → List Message → Type 0
 AllInOrder n dead l = (d : Message) (i : ℕ) → i < length l → MessageInOrder n dead (getD l i d)
 
--- more deaths leave a message lawful
+-- more deaths leave a message in order
 pub message-more : (n dead dead′ : ℕ) (m : Message) → ((k : ℕ) → has dead k ≡ true → has dead′ k ≡ true) → MessageInOrder n dead m → MessageInOrder n dead′ m
 message-more n dead dead′ m h l = record { from-in = l .from-in; to-in = l .to-in; differ = l .differ; kind-low = l .kind-low; kind-high = l .kind-high; ask-empty = l .ask-empty; ask-dead = λ e k b. h k (l .ask-dead e k b) }
 

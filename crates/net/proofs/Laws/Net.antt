@@ -1,9 +1,9 @@
 -- The 128 places along their code: one message taken out, and the messages of a send written from the first free place on.
 -- Assumes nothing.
-use mathlib.Core.Logic.{⊎-elim}
 use mathlib.Core.Path.{_≡_, refl, sym, ap, ap₂, subst, _∙_}
 use mathlib.Core.Bool.{cond}
 use mathlib.Core.List.{List, [], _∷_, _++_, append-nil}
+use mathlib.Core.Logic.{⊎-elim}
 use Prim.Native.Nat.{ℕ, suc, _+_, _-_, _≤_, _<_, _^_}
 use native.Mathlib.Nat.{le-dest}
 use native.Mathlib.Numerals.{add-one}

@@ -1,4 +1,4 @@
--- `is_orderly` meets its contract: the tests are the clauses, and the arrays have their lengths. Assumes nothing.
+-- `in_order` meets its contract: the tests are the clauses, and the arrays have their lengths. Assumes nothing.
 use borrow.Author.Needs.{needs}
 use Rattle.order.proofs.Laws.Ordering.{in-order-test, shaped-from}
 use Rattle.order.proofs.in_order.Statement.{statement}

@@ -23,7 +23,7 @@ use Rattle.net.proofs.Facts.{MessageInOrder}
 use Rattle.plans.specs.Plans.{idle, delivered, acting}
 use Rattle.plans.proofs.Laws.Cases.{delivered-by, acting-by}
 
--- the rank is still seated, and sends what it may
+-- the rank is still in order, and sends what it may
 pub record Outcome (anc : ℕ → ℕ) (n dead me : ℕ) (a : Acted) : Type 0 where
   pub seat : MemberInOrder anc n dead me (a .rank) (a .row)
   pub first-posted : Posted n me (a .rank .marks) (a .first)

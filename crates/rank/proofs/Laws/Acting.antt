@@ -11,7 +11,7 @@ use borrow.Author.Tests.{eq-eqb, ne-eqb}
 use Rattle.sets.specs.Sets.{none, has, only, add, union, meet, minus}
 use Rattle.sets.proofs.Laws.Bools.{and-not-l, and-not-r}
 use Rattle.sets.proofs.Laws.Members.{minus-minus, minus-none}
-use Rattle.tree.specs.Tree.{parent, children, moved}
+use Rattle.tree.specs.Tree.{parent, children}
 use Rattle.tree.specs.Calls.{mended, mendedBelow}
 use Rattle.tree.specs.declared.Mended.{Mended}
 use Rattle.tree.proofs.Laws.Rows.{fresh-at}

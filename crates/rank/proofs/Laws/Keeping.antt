@@ -1,9 +1,9 @@
--- Each rule keeps a rank in order, given what document 01 says of the event. A rule's own part leaves the rank fair, and settle makes
--- it ordered, in one place. Over any ancestor sets. Assumes nothing.
-use mathlib.Core.Logic.{⊎-elim}
+-- Each rule keeps a rank in order, given what document 01 says of the event. A rule's own part leaves the rank to settle, and settle
+-- puts it in order, in one place. Over any ancestor sets. Assumes nothing.
 use mathlib.Core.Path.{_≡_, refl, sym, ap, subst, _∙_}
 use mathlib.Core.Bool.{Bool, true, false, cond, not}
 use mathlib.Core.List.{List}
+use mathlib.Core.Logic.{⊎-elim}
 use Prim.Native.Nat.{ℕ, _≤_, _<_}
 use native.Mathlib.Omega.{arith}
 use borrow.Author.Tests.{eqb-true, ne-eqb}
@@ -112,7 +112,7 @@ module _ (anc : ℕ → ℕ) (n me : ℕ) (small : n ≤ 64) (own : me < n) wher
   unfolding deciding saying childrenOf
   deciding-posted x r f = tells-posted (r .marks) x (minus (union (children anc n (r .marks) me) (r .owed)) (r .marks)) (within-minus n me (union (children anc n (r .marks) me) (r .owed)) (r .marks) (within-union n me (children anc n (r .marks) me) (r .owed) (within-children (r .marks)) (f .owed-in)))
 
-  -- a fair rank, settled
+  -- a rank to settle, settled
   abbrev Settles : Rank → Said → Type 0
   Settles r s = RankInOrder anc n me (s .rank) × (s .rank .marks ≡ r .marks) × Posted n me (r .marks) (s .send)
 
@@ -150,7 +150,7 @@ module _ (anc : ℕ → ℕ) (n me : ℕ) (small : n ≤ 64) (own : me < n) wher
       (record { marks-in = o .to-settle .marks-in; heard-in = o .to-settle .heard-in; owed-in = o .to-settle .owed-in; awaits = o .to-settle .awaits; waits = λ e. absurd (omega arith); unless = λ e. o .to-settle .unless (λ x. omega arith); known = omega arith })
       (silent-posted (r .marks))
 
-  -- a rule's own part: the rank is fair, has these marks, and may send this
+  -- a rule's own part: the rank is to settle, has these marks, and may send this
   abbrev Leaves : ℕ → Said → Type 0
   Leaves marks s = ToSettle anc n me (s .rank) × (s .rank .marks ≡ marks) × Posted n me marks (s .send)
 

@@ -1,8 +1,8 @@
 -- What each rule makes of the deaths that a rank knows, and what it counts as moved: a notice adds one death, an ASK every rank below its
 -- sender; the other rules add none and move nothing. Over any ancestor sets, of any rank. Assumes nothing.
-use mathlib.Core.Logic.{⊎-elim}
 use mathlib.Core.Path.{_≡_, refl, sym, _∙_}
 use mathlib.Core.Bool.{true, false}
+use mathlib.Core.Logic.{⊎-elim}
 use Prim.Native.Nat.{ℕ}
 use Rattle.sets.specs.Sets.{has, add, union, below}
 use Rattle.sets.proofs.Laws.Bools.{passes-or-fails}

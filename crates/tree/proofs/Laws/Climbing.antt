@@ -1,8 +1,8 @@
 -- Climbing: what the path of a rank is, how long it may be, and how a climb follows it link by link. Assumes nothing.
-use mathlib.Core.Logic.{⊎-elim}
 use mathlib.Core.Path.{_≡_, refl, sym, ap, subst, _∙_}
 use mathlib.Core.Bool.{false, cond}
 use mathlib.Core.List.{List, [], _∷_}
+use mathlib.Core.Logic.{⊎-elim}
 use Prim.Native.Nat.{ℕ, zero, suc, _+_, _-_, _/_, _^_, _≤_, _<_}
 use native.Mathlib.Nat.{two-pow-succ, le-refl, le-of-lt, le-trans, add-zero}
 use native.Mathlib.Omega.{arith}

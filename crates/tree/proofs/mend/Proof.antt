@@ -1,7 +1,7 @@
 -- `tree::mend` meets its contract. Entries that did not point at q stay, those that did are worked out anew. The invariant: the
 -- first p entries are the new table's, the others the old table's, and the set holds those that pointed at q. Assumes nothing.
-use mathlib.Core.Logic.{⊎-elim}
 use mathlib.Core.Path.{_≡_}
+use mathlib.Core.Logic.{⊎-elim}
 use Prim.Native.Nat.{_-_}
 use borrow.Author.Needs.{needs}
 use Rattle.sets.specs.Sets.{add}
