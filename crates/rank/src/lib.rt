@@ -128,6 +128,16 @@ impl Rank {
         }
     }
 
+    // Nothing is said.
+    fn still(self) -> Said
+        ensures { λ r. ⌜ r ≡ saying self silent ⌝ }
+    {
+        Said {
+            rank: self,
+            send: Send::silent(),
+        }
+    }
+
     // UP word to q.
     fn report(self, q: u8) -> Send
         requires { ⌜ q < 64 ⌝ }
@@ -161,16 +171,10 @@ impl Rank {
         ensures { λ r. ⌜ r ≡ settled flat n me self ⌝ }
     {
         if self.phase != GATHERING {
-            return Said {
-                rank: self,
-                send: Send::silent(),
-            };
+            return self.still();
         }
         if self.awaited != 0 {
-            return Said {
-                rank: self,
-                send: Send::silent(),
-            };
+            return self.still();
         }
         let parent = row[me as usize];
         if parent == sets::NONE {
@@ -295,10 +299,7 @@ impl Rank {
                 send: self.report(q),
             };
         }
-        Said {
-            rank: self,
-            send: Send::silent(),
-        }
+        self.still()
     }
 
     // Waiting, and the parent died: reports to the new parent, or gathers again as the root and asks all children.
@@ -378,10 +379,7 @@ impl Rank {
         if self.lost_child(n, me, row, q) {
             return self.inherit(n, me, row, q, seen, table);
         }
-        Said {
-            rank: seen,
-            send: Send::silent(),
-        }
+        seen.still()
     }
 
     // Asks each child gained from q.

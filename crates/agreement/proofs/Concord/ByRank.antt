@@ -14,7 +14,7 @@ use Rattle.tree.proofs.Laws.Parents.{no-parent-all}
 use Rattle.tree.proofs.Laws.Children.{under-le, child-above-all}
 use Rattle.rank.specs.declared.Rank.{Rank}
 use Rattle.rank.specs.declared.Send.{Send}
-use Rattle.rank.specs.Words.{decided, up, down}
+use Rattle.rank.specs.Words.{waiting, decided, up, down}
 use Rattle.rank.proofs.Turn.{Says, NoParent}
 use Rattle.rank.proofs.Speech.{SaysWord, Remains, Obeys, Settles}
 use Rattle.state.specs.declared.State.{State}

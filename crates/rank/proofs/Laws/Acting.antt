@@ -69,15 +69,11 @@ module _ (anc : ℕ → ℕ) where
   unfolding settled inPhase
   settled-child n me r p a e = rw (eq-eqb (r .phase) gathering p, eq-eqb (r .awaited) 0 a, ne-eqb (parentOf anc me r) none e)
 
-  settle-still : (n me : ℕ) (r : Rank) (s : Send) → settled anc n me r ≡ saying r silent → s ≡ silent → _≡_ {A = Said} (record { rank = r; send = s }) (settled anc n me r)
-  unfolding saying
-  settle-still n me r s e f = rw (e, f)
+  pub settle-other : (n me : ℕ) (r : Rank) (s : Said) → (r .phase ≡ gathering → ⊥) → s ≡ saying r silent → s ≡ settled anc n me r
+  settle-other n me r s h f = f ∙ sym (settled-other n me r h)
 
-  pub settle-other : (n me : ℕ) (r : Rank) (s : Send) → (r .phase ≡ gathering → ⊥) → s ≡ silent → _≡_ {A = Said} (record { rank = r; send = s }) (settled anc n me r)
-  settle-other n me r s h f = settle-still n me r s (settled-other n me r h) f
-
-  pub settle-awaits : (n me : ℕ) (r : Rank) (s : Send) → (r .awaited ≡ 0 → ⊥) → s ≡ silent → _≡_ {A = Said} (record { rank = r; send = s }) (settled anc n me r)
-  settle-awaits n me r s h f = settle-still n me r s (settled-awaits n me r h) f
+  pub settle-awaits : (n me : ℕ) (r : Rank) (s : Said) → (r .awaited ≡ 0 → ⊥) → s ≡ saying r silent → s ≡ settled anc n me r
+  settle-awaits n me r s h f = f ∙ sym (settled-awaits n me r h)
 
   pub settle-root : (n me : ℕ) (r : Rank) (row : List ℕ) (d : Said) → FreshRow anc n me r row → r .phase ≡ gathering → r .awaited ≡ 0 → getD row me 0 ≡ none → d ≡ deciding anc n me (r .word) r → d ≡ settled anc n me r
   settle-root n me r row d k p a z e = e ∙ sym (settled-root n me r p a (sym (row-parent n me r row k) ∙ z))
@@ -178,13 +174,12 @@ module _ (anc : ℕ → ℕ) where
       let u : eqb (r .phase) waiting && eqb (parentOf anc me r) q ≡ true = ap (λ (x : ℕ). eqb (r .phase) waiting && eqb x q) (sym (row-parent n me r row k)) ∙ t in
       rw (ne-eqb (r .phase) decided p, u, f, e)
 
-  pub asked-other : (n me q : ℕ) (r : Rank) (row : List ℕ) (o : ℕ) (s : Send) → FreshRow anc n me r row → (r .phase ≡ decided → ⊥) → o ≡ add (r .owed) q → eqb (r .phase) waiting && eqb (getD row me 0) q ≡ false
-      → s ≡ silent
-      → _≡_ {A = Said} (record { rank = record { phase = r .phase; marks = r .marks; heard = r .heard; awaited = r .awaited; owed = o; word = r .word; result = r .result }; send = s }) (asked anc n me q r)
-  unfolding asked inPhase saying owing
+  pub asked-other : (n me q : ℕ) (r : Rank) (row : List ℕ) (o : ℕ) (s : Said) → FreshRow anc n me r row → (r .phase ≡ decided → ⊥) → o ≡ add (r .owed) q → eqb (r .phase) waiting && eqb (getD row me 0) q ≡ false
+      → s ≡ saying (record { phase = r .phase; marks = r .marks; heard = r .heard; awaited = r .awaited; owed = o; word = r .word; result = r .result }) silent → s ≡ asked anc n me q r
+  unfolding asked inPhase owing
   asked-other n me q r row o s k p e t f =
       let u : eqb (r .phase) waiting && eqb (parentOf anc me r) q ≡ false = ap (λ (x : ℕ). eqb (r .phase) waiting && eqb x q) (sym (row-parent n me r row k)) ∙ t in
-      rw (ne-eqb (r .phase) decided p, u, f, e)
+      f ∙ rw (ne-eqb (r .phase) decided p, u, e)
 
   pub row-asked : (n me q : ℕ) (r : Rank) (row : List ℕ) (s : Said) → FreshRow anc n me r row → s ≡ asked anc n me q r → FreshRow anc n me (s .rank) row
   row-asked n me q r row s k e = row-said n me r row s k (ap (λ (x : Said). x .rank .marks) e ∙ asked-marks anc n me q r)
@@ -230,10 +225,10 @@ module _ (anc : ℕ → ℕ) where
   unfolding bereaved
   bereave-inherits n me q r v b c s f t g u e = e ∙ rw (sym f ∙ t, sym g ∙ u)
 
-  pub bereave-other : (n me q : ℕ) (r v : Rank) (b c : Bool) (s : Send) → b ≡ inPhase waiting r && eqb (parentOf anc me r) q → b ≡ false
-      → c ≡ inPhase gathering r && eqb (parentOf anc me r) none && has (childrenOf anc n me r) q → c ≡ false → s ≡ silent → _≡_ {A = Said} (record { rank = v; send = s }) (bereaved anc n me q r v)
-  unfolding bereaved saying
-  bereave-other n me q r v b c s f t g u e = rw (sym f ∙ t, sym g ∙ u, e)
+  pub bereave-other : (n me q : ℕ) (r v : Rank) (b c : Bool) (s : Said) → b ≡ inPhase waiting r && eqb (parentOf anc me r) q → b ≡ false
+      → c ≡ inPhase gathering r && eqb (parentOf anc me r) none && has (childrenOf anc n me r) q → c ≡ false → s ≡ saying v silent → s ≡ bereaved anc n me q r v
+  unfolding bereaved
+  bereave-other n me q r v b c s f t g u e = e ∙ rw (sym f ∙ t, sym g ∙ u)
 
   pub inherit-returns : (n me q : ℕ) (r v : Rank) (c d g : ℕ) (s : Send) → c ≡ children anc n (v .marks) me → d ≡ children anc n (r .marks) q → g ≡ meet c d → s ≡ asks g
       → _≡_ {A = Said} (record { rank = v; send = s }) (inheriting anc n me q r v)

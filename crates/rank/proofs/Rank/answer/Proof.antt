@@ -27,8 +27,8 @@ returns-2 : tie.Need-returns-2
 unfolding owing
 returns-2 c = search asked-waiting
 
-silent-requires : tie.Need-silent-requires
-silent-requires c κs = search needs
+still-requires : tie.Need-still-requires
+still-requires c κs = search needs
 
 returns-3 : tie.Need-returns-3
 returns-3 c = search asked-other
@@ -44,5 +44,5 @@ answer-spec =
     array-read-parent
     report-requires
     returns-2
-    silent-requires
+    still-requires
     returns-3)

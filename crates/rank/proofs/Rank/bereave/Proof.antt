@@ -22,8 +22,8 @@ inherit-requires c κs = search needs
 returns-2 : tie.Need-returns-2
 returns-2 c = search bereave-inherits
 
-silent-requires : tie.Need-silent-requires
-silent-requires c κs = search needs
+still-requires : tie.Need-still-requires
+still-requires c κs = search needs
 
 returns-3 : tie.Need-returns-3
 returns-3 c = search bereave-other
@@ -38,5 +38,5 @@ bereave-spec =
     lost-child-requires
     inherit-requires
     returns-2
-    silent-requires
+    still-requires
     returns-3)

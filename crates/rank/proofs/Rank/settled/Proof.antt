@@ -5,14 +5,14 @@ use Rattle.rank.proofs.Laws.Acting.{row-parent-lt, settle-other, settle
 use Rattle.rank.proofs.Rank.settled.Statement.{statement}
 use Rattle.rank.proofs.Rank.settled.Tie as tie
 
-silent-requires : tie.Need-silent-requires
-silent-requires c κs = search needs
+still-requires : tie.Need-still-requires
+still-requires c κs = search needs
 
 returns : tie.Need-returns
 returns c = search settle-other
 
-silent-requires-2 : tie.Need-silent-requires-2
-silent-requires-2 c κs = search needs
+still-requires-2 : tie.Need-still-requires-2
+still-requires-2 c κs = search needs
 
 returns-2 : tie.Need-returns-2
 returns-2 c = search settle-awaits
@@ -37,9 +37,9 @@ pub settled-spec : {M : Type 1} → statement M
 settled-spec =
     tie.close
     (tie.spec
-    silent-requires
+    still-requires
     returns
-    silent-requires-2
+    still-requires-2
     returns-2
     array-read-parent
     decide-requires
