@@ -1,16 +1,12 @@
 -- A public contract leaves nothing open: two replies to the same call that meet it are the same, and so are the lent buffers at exit.
 -- Assumes nothing.
 use mathlib.Core.Path.{_≡_}
-use mathlib.Core.List.{List}
 use Prim.Native.Nat.{ℕ}
 use contract.Lifetimes.{Lfts}
 use Rattle.sets.proofs.Laws.Alike.{alike}
-use Rattle.text.specs.Text.{Wrote}
+use Rattle.text.proofs.Laws.Writing.{wrote-alike}
 use Rattle.listing.proofs.list.Reads as list
 use Rattle.listing.proofs.report.Reads as report
-
-wrote-alike : {text : List ℕ} {at : ℕ} {l t u : List ℕ} {a b : ℕ} → Wrote text at l t a → Wrote text at l u b → (a ≡ b) × (t ≡ u)
-wrote-alike p q = (alike (p .next-is) (q .next-is), alike (p .text-is) (q .text-is))
 
 -- The length, and the buffer.
 pub list-determined : (κs : Lfts 2) (a : _) (t u : ℕ) (x y : _) → list.Post κs a t x → list.Post κs a u y → (t ≡ u) × (x .0 .now ≡ y .0 .now)

@@ -14,3 +14,7 @@ same t u p q = ap {B = Ran} (λ (n : ℕ). record { answer = n; state = t .state
 -- The answer, the final group with its tables, and the slice.
 pub run-determined : (κs : Lfts 2) (a : _) (t u : Ran) (x y : _) → run.Post κs a t x → run.Post κs a u y → (t ≡ u) × (x .1 .0 .now ≡ y .1 .0 .now)
 run-determined κs a t u x y e f = (same t u (alike (e .0) (f .0)) (alike (e .1 .0) (f .1 .0)), alike (e .1 .1) (f .1 .1))
+
+-- The entry point asks nothing of its caller.
+pub run-asks-nothing : (κs : Lfts 2) (a : _) → run.Pre κs a
+run-asks-nothing κs a = tt

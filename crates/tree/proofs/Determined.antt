@@ -1,15 +1,58 @@
 -- A public contract leaves nothing open: two replies to the same call that meet it are the same. Assumes nothing.
 use mathlib.Core.Path.{_≡_}
+use mathlib.Core.Bool.{Bool}
+use mathlib.Core.List.{List}
+use Prim.Native.Nat.{ℕ}
 use contract.Lifetimes.{Lfts}
 use Rattle.sets.proofs.Laws.Alike.{alike}
+use Rattle.tree.specs.declared.Mended.{Mended}
 use Rattle.tree.specs.declared.Marked.{Marked}
 use Rattle.tree.specs.declared.Climbed.{Climbed}
 use Rattle.tree.proofs.Laws.Climbing.{told-determines}
+use Rattle.tree.proofs.ancestors.Reads as ancestors
+use Rattle.tree.proofs.parent_of.Reads as parent-of
+use Rattle.tree.proofs.fresh.Reads as fresh
+use Rattle.tree.proofs.children_of.Reads as children-of
+use Rattle.tree.proofs.mend.Reads as mend
+use Rattle.tree.proofs.mend_below.Reads as mend-below
+use Rattle.tree.proofs.wrong_size.Reads as wrong-size
+use Rattle.tree.proofs.same.Reads as same
 use Rattle.tree.proofs.mark.Reads as mark
 use Rattle.tree.proofs.climb.Reads as climb
+
+pub ancestors-determined : (κs : Lfts 0) (a : _) (t u : ℕ) (x y : _) → ancestors.Post κs a t x → ancestors.Post κs a u y → t ≡ u
+ancestors-determined κs a t u x y e f = alike e f
+
+pub parent-of-determined : (κs : Lfts 0) (a : _) (t u : ℕ) (x y : _) → parent-of.Post κs a t x → parent-of.Post κs a u y → t ≡ u
+parent-of-determined κs a t u x y e f = alike e f
+
+pub fresh-determined : (κs : Lfts 0) (a : _) (t u : List ℕ) (x y : _) → fresh.Post κs a t x → fresh.Post κs a u y → t ≡ u
+fresh-determined κs a t u x y e f = alike e f
+
+pub children-of-determined : (κs : Lfts 0) (a : _) (t u : ℕ) (x y : _) → children-of.Post κs a t x → children-of.Post κs a u y → t ≡ u
+children-of-determined κs a t u x y e f = alike e f
+
+pub mend-determined : (κs : Lfts 0) (a : _) (t u : Mended) (x y : _) → mend.Post κs a t x → mend.Post κs a u y → t ≡ u
+mend-determined κs a t u x y e f = alike e f
+
+pub mend-below-determined : (κs : Lfts 0) (a : _) (t u : Mended) (x y : _) → mend-below.Post κs a t x → mend-below.Post κs a u y → t ≡ u
+mend-below-determined κs a t u x y e f = alike e f
+
+pub wrong-size-determined : (κs : Lfts 0) (a : _) (t u : Bool) (x y : _) → wrong-size.Post κs a t x → wrong-size.Post κs a u y → t ≡ u
+wrong-size-determined κs a t u x y e f = alike e f
+
+pub same-determined : (κs : Lfts 0) (a : _) (t u : Bool) (x y : _) → same.Post κs a t x → same.Post κs a u y → t ≡ u
+same-determined κs a t u x y e f = alike e f
 
 pub mark-determined : (κs : Lfts 0) (a : _) (t u : Marked) (x y : _) → mark.Post κs a t x → mark.Post κs a u y → t ≡ u
 mark-determined κs a t u x y e f = alike e f
 
 pub climb-determined : (κs : Lfts 0) (a : _) (t u : Climbed) (x y : _) → climb.Post κs a t x → climb.Post κs a u y → t ≡ u
 climb-determined κs a t u x y e f = told-determines t u (alike e f)
+
+-- The entry points ask nothing of their callers.
+pub mark-asks-nothing : (κs : Lfts 0) (a : _) → mark.Pre κs a
+mark-asks-nothing κs a = tt
+
+pub climb-asks-nothing : (κs : Lfts 0) (a : _) → climb.Pre κs a
+climb-asks-nothing κs a = tt

@@ -4,6 +4,7 @@ use mathlib.Core.List.{List, [], _∷_, _++_}
 use Prim.Native.Nat.{ℕ, _+_, _≤_}
 use native.Mathlib.Omega.{arith}
 use lib.ListN.{length, set, length-set, length-append}
+use Rattle.sets.proofs.Laws.Alike.{alike}
 use Rattle.text.specs.Text.{pasted, Wrote}
 
 length-pasted : (text : List ℕ) (at : ℕ) (l : List ℕ) → length (pasted text at l) ≡ length text
@@ -39,3 +40,7 @@ wrote-kept {text} {at} {l} p = ap length (p .text-is) ∙ length-pasted text at 
 -- what room is left after a piece of at most k bytes
 pub wrote-room : {text : List ℕ} {at : ℕ} {l t : List ℕ} {a : ℕ} (k m : ℕ) → Wrote text at l t a → length l ≤ k → at + (k + m) ≤ length text → a + m ≤ length t
 wrote-room k m p short room = omega (arith, p .next-is, wrote-kept p)
+
+-- two that wrote the same wrote alike
+pub wrote-alike : {text : List ℕ} {at : ℕ} {l t u : List ℕ} {a b : ℕ} → Wrote text at l t a → Wrote text at l u b → (a ≡ b) × (t ≡ u)
+wrote-alike p q = (alike (p .next-is) (q .next-is), alike (p .text-is) (q .text-is))
