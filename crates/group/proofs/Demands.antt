@@ -1,22 +1,25 @@
 -- Demand 3 as theorems over the states that a group can be in: from an accepted start, by accepted events. Every such state is in order
 -- (`Laws/Reached`), and what holds of any state in order is in `Laws/Moving`. Over any ancestor sets, save the last. Assumes nothing.
-use mathlib.Core.Path.{_≡_, subst}
+use mathlib.Core.Path.{_≡_, sym, ap, subst}
 use mathlib.Core.Bool.{true, false, _||_}
-use Prim.Native.Nat.{ℕ, _≤_, _<_}
+use Prim.Native.Nat.{ℕ, _^_, _≤_, _<_}
+use native.Mathlib.Nat.{le-trans}
 use native.Mathlib.Omega.{arith}
 use lib.ListN.{getD}
 use Rattle.sets.specs.Sets.{has, add, union, below}
-use Rattle.tree.specs.Tree.{flat, fresh, links, digits}
-use Rattle.tree.proofs.Laws.Climbing.{climb-within-digits}
+use Rattle.tree.specs.Tree.{flat, fresh, links, reached, IsRoot, digits}
+use Rattle.tree.specs.Calls.{Told, climbed}
+use Rattle.tree.proofs.Laws.Climbing.{path-ends, one-root, digits-enough, digits-least, climb-within-digits}
+use Rattle.tree.proofs.Laws.Calls.{climb-whole}
 use Rattle.rank.specs.Words.{ask}
 use Rattle.rank.specs.Records.{awaiting}
 use Rattle.state.specs.declared.State.{State}
 use Rattle.state.specs.States.{rankAt, rowAt, placeAt}
 use Rattle.order.specs.Between.{InOrder}
-use Rattle.group.specs.Events.{subjectOf, event}
+use Rattle.group.specs.Events.{event}
 use Rattle.group.specs.Reaching.{Reaches, MovesExactly, AskMoves}
 use Rattle.group.proofs.Laws.Reached.{reached-small, reached-in-order, reached-size, reached-inside, reached-member}
-use Rattle.group.proofs.Laws.Moving.{link-free, others-stay, others-move-nothing, notice-about, notice-knows, notice-moves, known-death-stays, delivery-about, dropped-moves-nothing, ask-knows, ask-moves}
+use Rattle.group.proofs.Laws.Moving.{link-free, others-move-nothing, notice-knows, notice-moves, known-death-stays, dropped-moves-nothing, ask-knows, ask-moves}
 
 -- Every reached state is in order.
 pub a-reached-state-is-in-order : (anc : ℕ → ℕ) (n : ℕ) (s : State) → Reaches anc n s → InOrder anc s
@@ -43,22 +46,14 @@ module _ (anc : ℕ → ℕ) (n : ℕ) (s : State) (run : Reaches anc n s) where
 
 -- ---- any accepted event
 
-module _ (anc : ℕ → ℕ) (n : ℕ) (s : State) (run : Reaches anc n s) (kind a b : ℕ) (z : event anc s kind a b .answer ≡ 0) where
-  -- Every rank but the one that the event is about keeps its record and its row.
-  pub other-ranks-stay : (j : ℕ) → (j ≡ subjectOf s kind a → ⊥) → (rankAt (event anc s kind a b .state) j ≡ rankAt s j) × (rowAt (event anc s kind a b .state) j ≡ rowAt s j)
-  other-ranks-stay = others-stay anc s (reached-in-order anc n s run) kind a b z
-
-  -- An event that is neither a notice nor the delivery of an ASK leaves every row as it was.
-  pub only-a-notice-or-an-ask-moves : (kind ≡ 4 → ⊥) → (kind ≡ 2 → placeAt s a .kind ≡ ask → ⊥) → (j : ℕ) → rowAt (event anc s kind a b .state) j ≡ rowAt s j
-  only-a-notice-or-an-ask-moves = others-move-nothing anc s (reached-in-order anc n s run) kind a b z
+-- An event that is neither a notice nor the delivery of an ASK leaves every row as it was.
+pub only-a-notice-or-an-ask-moves : (anc : ℕ → ℕ) (n : ℕ) (s : State) → Reaches anc n s → (kind a b : ℕ) → event anc s kind a b .answer ≡ 0
+    → (kind ≡ 4 → ⊥) → (kind ≡ 2 → placeAt s a .kind ≡ ask → ⊥) → (j : ℕ) → rowAt (event anc s kind a b .state) j ≡ rowAt s j
+only-a-notice-or-an-ask-moves anc n s run = others-move-nothing anc s (reached-in-order anc n s run)
 
 -- ---- a notice to rank a that rank b is dead
 
 module _ (anc : ℕ → ℕ) (n : ℕ) (s : State) (run : Reaches anc n s) (a b : ℕ) (z : event anc s 4 a b .answer ≡ 0) where
-  -- It is about rank a.
-  pub a-notice-is-about : subjectOf s 4 a ≡ a
-  a-notice-is-about = notice-about anc s (reached-in-order anc n s run) a b z .0
-
   -- Rank a then knows b's death besides those that it knew.
   pub a-notice-marks : rankAt (event anc s 4 a b .state) a .marks ≡ add (rankAt s a .marks) b
   a-notice-marks = notice-knows anc s (reached-in-order anc n s run) a b z
@@ -74,10 +69,6 @@ module _ (anc : ℕ → ℕ) (n : ℕ) (s : State) (run : Reaches anc n s) (a b 
 -- ---- the delivery of the message at place a
 
 module _ (anc : ℕ → ℕ) (n : ℕ) (s : State) (run : Reaches anc n s) (a b : ℕ) (z : event anc s 2 a b .answer ≡ 0) where
-  -- It is about the message's receiver.
-  pub a-delivery-is-about : subjectOf s 2 a ≡ placeAt s a .to
-  a-delivery-is-about = delivery-about anc s (reached-in-order anc n s run) a b z
-
   -- A message to a dead rank, or from a sender that the receiver has marked, leaves every row as it was.
   pub a-dropped-message-moves-nothing : has (s .group .dead) (placeAt s a .to) || has (rankAt s (placeAt s a .to) .marks) (placeAt s a .from) ≡ true
       → (j : ℕ) → rowAt (event anc s 2 a b .state) j ≡ rowAt s j
@@ -97,6 +88,43 @@ module _ (anc : ℕ → ℕ) (n : ℕ) (s : State) (run : Reaches anc n s) (a b 
 
 -- ---- the climb
 
--- In a reached group over the flat tree, in any rank's view, a climb takes no more links than the rank's number has binary digits.
-pub a-climb-is-short : (n : ℕ) (s : State) → Reaches flat n s → (i p : ℕ) → i < n → p < n → links flat (rankAt s i .marks) p ≤ digits p
-a-climb-is-short n s run i p l b = let small : n ≤ 64 = reached-small flat n s run .1 in climb-within-digits (rankAt s i .marks) p (omega arith)
+-- The digits of a rank's number: the least d with the number below 2 ^ d.
+pub digits-are-enough : (p : ℕ) → p < 2 ^ digits p
+digits-are-enough = digits-enough
+
+pub digits-are-least : (p d : ℕ) → p < 2 ^ d → digits p ≤ d
+digits-are-least = digits-least
+
+-- In the flat tree, in any rank's view, from any rank p not known dead, with as many links as its number has binary digits, or more.
+module _ (n : ℕ) (s : State) (run : Reaches flat n s) (i p allowance : ℕ) (l : i < n) (b : p < n) (free : has (rankAt s i .marks) p ≡ false) (enough : digits p ≤ allowance) where
+  small : (0 < n) × (n ≤ 64)
+  small = reached-small flat n s run
+
+  short : links flat (rankAt s i .marks) p ≤ digits p
+  short = climb-within-digits (rankAt s i .marks) p (let m : n ≤ 64 = small .1 in omega arith)
+
+  whole : climbed flat n (rankAt s i .marks) p allowance ≡ record { number = 0; rank = reached flat (rankAt s i .marks) p (links flat (rankAt s i .marks) p); climbed = links flat (rankAt s i .marks) p }
+  whole = climb-whole flat n (rankAt s i .marks) p allowance (small .0) (small .1) (reached-member flat n s run i l .in-order .to-settle .marks-in .inside) b free (le-trans short enough)
+
+  -- The climb is accepted.
+  pub a-climb-is-accepted : climbed flat n (rankAt s i .marks) p allowance .number ≡ 0
+  a-climb-is-accepted = ap (λ (t : Told). t .number) whole
+
+  -- It takes no more links than the rank's number has binary digits.
+  pub a-climb-is-short : climbed flat n (rankAt s i .marks) p allowance .climbed ≤ digits p
+  a-climb-is-short = subst (λ (t : Told). t .climbed ≤ digits p) (sym whole) short
+
+  -- It answers a root of the view: an unmarked rank without a parent.
+  pub a-climb-ends-at-a-root : IsRoot flat n (rankAt s i .marks) (climbed flat n (rankAt s i .marks) p allowance .rank)
+  a-climb-ends-at-a-root = subst (λ (t : Told). IsRoot flat n (rankAt s i .marks) (t .rank)) (sym whole) (path-ends flat n (rankAt s i .marks) p b free)
+
+-- A view has one root.
+pub a-view-has-one-root : (anc : ℕ → ℕ) (n : ℕ) (s : State) → Reaches anc n s → (i q r : ℕ) → IsRoot anc n (rankAt s i .marks) q → IsRoot anc n (rankAt s i .marks) r → q ≡ r
+a-view-has-one-root anc n s run i q r = one-root anc n (rankAt s i .marks) q r (let small : n ≤ 64 = reached-small anc n s run .1 in omega arith)
+
+-- So every climb in that view ends at the same rank.
+pub every-climb-ends-there : (n : ℕ) (s : State) → Reaches flat n s → (i : ℕ) → i < n → (p q m k : ℕ) → p < n → q < n → has (rankAt s i .marks) p ≡ false → has (rankAt s i .marks) q ≡ false → digits p ≤ m → digits q ≤ k
+    → climbed flat n (rankAt s i .marks) p m .rank ≡ climbed flat n (rankAt s i .marks) q k .rank
+every-climb-ends-there n s run i l p q m k a b f g x y =
+    a-view-has-one-root flat n s run i (climbed flat n (rankAt s i .marks) p m .rank) (climbed flat n (rankAt s i .marks) q k .rank)
+    (a-climb-ends-at-a-root n s run i p m l a f x) (a-climb-ends-at-a-root n s run i q k l b g y)

@@ -6,4 +6,5 @@ pub mod Knowing
 pub mod Moving
 pub mod Flying
 pub mod Following
+pub mod Changing
 pub mod Reached

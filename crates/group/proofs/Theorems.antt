@@ -1,84 +1,134 @@
--- The promises of the group layer, each under a name that says it. Over any ancestor sets. Assumes nothing.
-use mathlib.Core.Path.{_≡_, refl, ap, _∙_}
-use mathlib.Core.Bool.{false, cond, _||_}
-use mathlib.Core.Logic.{_⊎_, inl, inr}
-use Prim.Native.Nat.{ℕ, _+_, _-_, _≤_, _<_}
-use native.Mathlib.Omega.{arith}
-use borrow.Author.Tests.{eq-eqb}
-use Rattle.sets.specs.Sets.{has}
+-- The promises of the group layer, each under a name that says it: what a caller of start and event sees, over the states that a group can be
+-- in. Over any ancestor sets. Assumes nothing.
+use mathlib.Core.Path.{_≡_, refl, sym, ap₂, subst, _∙_}
+use mathlib.Core.Bool.{true, false, cond, _||_}
+use mathlib.Core.List.{_++_}
+use mathlib.Core.Logic.{⊎-elim, inr}
+use Prim.Native.Nat.{ℕ, _≤_, _<_}
+use lib.Dec.{eqb}
+use lib.ListN.{length}
+use Rattle.sets.specs.Sets.{has, add}
 use Rattle.sets.proofs.Laws.Bools.{eq-or-ne}
 use Rattle.tree.specs.Tree.{moved}
 use Rattle.tree.specs.Calls.{movedBelow}
-use Rattle.rank.specs.Words.{up, down, ask}
-use Rattle.rank.specs.Sends.{size}
-use Rattle.refusals.specs.Refusing.{namesPlace}
+use Rattle.tree.specs.Relations.{Ancestry}
+use Rattle.rank.specs.Words.{ask}
+use Rattle.net.specs.Net.{without}
+use Rattle.refusals.specs.Refusing.{crashes, namesPlace}
+use Rattle.refusals.proofs.Laws.Refusing.{names-a-rank, names-a-place}
 use Rattle.state.specs.declared.State.{State}
-use Rattle.state.specs.States.{rankAt, rowAt, placeAt}
-use Rattle.state.specs.Starting.{freshState}
+use Rattle.state.specs.States.{rankAt, rowAt, placeAt, flying}
+use Rattle.state.specs.Starting.{freshState, started}
 use Rattle.order.specs.Between.{InOrder}
-use Rattle.order.proofs.Laws.Ordering.{in-order-facts}
 use Rattle.order.proofs.Laws.Fresh.{fresh-in-order}
-use Rattle.plans.specs.Plans.{acting}
-use Rattle.plans.proofs.Laws.Cases.{is-undropped}
+use Rattle.plans.proofs.Laws.Cases.{is-dropped, is-undropped}
 use Rattle.plans.proofs.Laws.Knowing as Knowing
-use Rattle.group.specs.Events.{applied, carried, subjectOf, planOf, stepped}
-use Rattle.group.proofs.Laws.Stepping.{step-plan, step-taken}
-use Rattle.group.proofs.Laws.Preserving.{step-keeps-order, step-changes-one, posted-long}
+use Rattle.group.specs.Events.{refused, event}
+use Rattle.group.specs.Changes.{named, doing, sends}
+use Rattle.group.specs.Reaching.{Reaches}
+use Rattle.group.proofs.Moves.{Move, by-rank, by-loss, Entry}
+use Rattle.group.proofs.Laws.Events.{event-on-none, event-refused}
+use Rattle.group.proofs.Laws.Moving.{event-keeps-order, event-size, others-stay, word-or-ask}
+use Rattle.group.proofs.Laws.Following.{event-moves}
+use Rattle.group.proofs.Laws.Reached.{reached-in-order, reached-size}
+use Rattle.group.proofs.Laws.Changing.{subject-is, record-is, row-is, dead-is, flying-is, sent-is, moved-is, named-rank, named-receiver}
+
+-- ---- order
 
 -- A fresh group is in order.
 pub a-fresh-group-is-in-order : (anc : ℕ → ℕ) (n : ℕ) → 0 < n → n ≤ 64 → InOrder anc (freshState anc n)
 a-fresh-group-is-in-order = fresh-in-order
 
 -- An event on a state in order gives a state in order.
-pub an-event-keeps-order : (anc : ℕ → ℕ) (s : State) (kind a b : ℕ) → InOrder anc s → InOrder anc (stepped anc s kind a b .state)
-an-event-keeps-order = step-keeps-order
+pub an-event-keeps-order : (anc : ℕ → ℕ) (s : State) (kind a b : ℕ) → InOrder anc s → InOrder anc (event anc s kind a b .state)
+an-event-keeps-order = event-keeps-order
 
--- The step changes one rank's record and row, the dead set and the list, and nothing else.
-pub a-step-changes-one-rank : (anc : ℕ → ℕ) (s : State) (kind a b j : ℕ) → (j ≡ subjectOf s kind a → ⊥)
-    → (stepped anc s kind a b .state .group .n ≡ s .group .n) × (rankAt (stepped anc s kind a b .state) j ≡ rankAt s j) × (rowAt (stepped anc s kind a b .state) j ≡ rowAt s j)
-a-step-changes-one-rank = step-changes-one
+-- ---- refused events
 
--- ---- what an accepted event answers
+-- Any event on a refused start is refused with 1.
+pub a-refused-start-takes-no-event : (anc : ℕ → ℕ) (n kind a b : ℕ) → (started anc n .answer ≡ 0 → ⊥) → event anc (started anc n .state) kind a b ≡ refused 1 (started anc n .state)
+a-refused-start-takes-no-event = event-on-none
 
--- sent equals the number of messages that joined the list: what is in flight afterwards is what stayed and what was sent
-pub sent-is-what-joined : (anc : ℕ → ℕ) (s : State) (kind a b : ℕ) → InOrder anc s → stepped anc s kind a b .answer ≡ 0
-    → stepped anc s kind a b .state .group .count ≡ s .group .count - cond (namesPlace kind) 1 0 + stepped anc s kind a b .sent
-unfolding stepped carried applied
-sent-is-what-joined anc s kind a b o e =
-    let z : planOf anc s kind a b .answer ≡ 0 = step-plan anc s kind a b e in
-    rw (eq-eqb (planOf anc s kind a b .answer) 0 z)
-    (posted-long anc s (in-order-facts anc s o) kind a b (planOf anc s kind a b) refl z ∙ sums (step-taken anc s kind a b e .leaves-is))
+-- A refused event, on any state, gives its number, sent 0, moved 0 and the state unchanged in every field.
+pub a-refused-event-changes-nothing : (anc : ℕ → ℕ) (s : State) (kind a b : ℕ) → (event anc s kind a b .answer ≡ 0 → ⊥) → event anc s kind a b ≡ refused (event anc s kind a b .answer) s
+a-refused-event-changes-nothing = event-refused
+
+-- ---- an accepted event on a reached state
+
+module _ (anc : ℕ → ℕ) (n : ℕ) (s : State) (run : Reaches anc n s) (kind a b : ℕ) (z : event anc s kind a b .answer ≡ 0) where
+  o : InOrder anc s
+  o = reached-in-order anc n s run
+
+  -- The group keeps its size.
+  pub the-size-stays : event anc s kind a b .state .group .n ≡ n
+  the-size-stays = event-size anc s kind a b o ∙ reached-size anc n s run
+
+  -- A step changes one rank's record and row: every rank but the one that the event names keeps both.
+  pub a-step-changes-one-rank : (j : ℕ) → (j ≡ named s kind a → ⊥) → (rankAt (event anc s kind a b .state) j ≡ rankAt s j) × (rowAt (event anc s kind a b .state) j ≡ rowAt s j)
+  a-step-changes-one-rank j h = others-stay anc s o kind a b z j (λ e. h (e ∙ subject-is anc s o kind a b z))
+
+  -- The record and the row of that one are what the event has it do.
+  pub the-named-rank-acts : (rankAt (event anc s kind a b .state) (named s kind a) ≡ doing anc s kind a b .rank) × (rowAt (event anc s kind a b .state) (named s kind a) ≡ doing anc s kind a b .row)
+  the-named-rank-acts = (record-is anc s o kind a b z, row-is anc s o kind a b z)
+
+  -- A crash adds rank a to the dead; nothing else does.
+  pub only-a-crash-kills : event anc s kind a b .state .group .dead ≡ cond (eqb kind crashes) (add (s .group .dead) a) (s .group .dead)
+  only-a-crash-kills = dead-is anc s o kind a b z
+
+  -- A delivered or lost message leaves, and the sends join at the end, in the order written.
+  pub what-is-sent-joins : flying (event anc s kind a b .state) ≡ cond (namesPlace kind) (without a (flying s)) (flying s) ++ sends anc s kind a b
+  what-is-sent-joins = flying-is anc s o kind a b z
+
+  -- sent is the number of messages that joined.
+  pub sent-is-what-joined : event anc s kind a b .sent ≡ length (sends anc s kind a b)
+  sent-is-what-joined = sent-is anc s o kind a b z
+
+  -- An event that is neither a notice nor the delivery of an ASK moves nothing.
+  pub nothing-else-moves : (kind ≡ 4 → ⊥) → (kind ≡ 2 → placeAt s a .kind ≡ ask → ⊥) → event anc s kind a b .moved ≡ 0
+  unfolding doing
+  nothing-else-moves h k = moved-is anc s o kind a b z ∙ Knowing.other-calm anc _ _ b _ _ _ _ kind h (λ e. word-or-ask anc s o kind a b z e (k e)) .1
+
+-- moved of a notice to rank a that rank b is dead is the difference of the fresh tables with and without the mark.
+pub moved-of-a-notice : (anc : ℕ → ℕ) (n : ℕ) (s : State) → Reaches anc n s → (a b : ℕ) → event anc s 4 a b .answer ≡ 0 → event anc s 4 a b .moved ≡ moved anc n (rankAt s a .marks) b
+unfolding doing
+moved-of-a-notice anc n s run a b z =
+    moved-is anc s (reached-in-order anc n s run) 4 a b z ∙ Knowing.notice-moves anc _ _ b _ _ _ _
+    ∙ ap₂ (λ (m i : ℕ). moved anc m (rankAt s i .marks) b) (reached-size anc n s run) (named-rank s 4 a (names-a-rank 4 (inr (inr refl)) .1))
+
+-- ---- the delivery of the message at place a
+
+module _ (anc : ℕ → ℕ) (n : ℕ) (s : State) (run : Reaches anc n s) (a b : ℕ) (z : event anc s 2 a b .answer ≡ 0) where
+  to-is : named s 2 a ≡ placeAt s a .to
+  to-is = named-receiver s 2 a (names-a-place 2 refl)
+
+  -- moved of an ASK that is taken is the sum over its marks.
+  pub moved-of-an-ask : placeAt s a .kind ≡ ask → has (s .group .dead) (placeAt s a .to) || has (rankAt s (placeAt s a .to) .marks) (placeAt s a .from) ≡ false
+      → event anc s 2 a b .moved ≡ movedBelow anc n (rankAt s (placeAt s a .to) .marks) (placeAt s a .from)
+  unfolding doing
+  moved-of-an-ask k t =
+      moved-is anc s (reached-in-order anc n s run) 2 a b z
+      ∙ Knowing.ask-moves anc _ _ b _ _ _ _ k (is-undropped (s .group .dead) (named s 2 a) (placeAt s a) (rankAt s (named s 2 a)) (rw to-is t))
+      ∙ ap₂ (λ (m i : ℕ). movedBelow anc m (rankAt s i .marks) (placeAt s a .from)) (reached-size anc n s run) to-is
+
+  -- A message to a dead rank, or from a sender that the receiver has marked, moves nothing.
+  pub moved-of-a-dropped-message : has (s .group .dead) (placeAt s a .to) || has (rankAt s (placeAt s a .to) .marks) (placeAt s a .from) ≡ true → event anc s 2 a b .moved ≡ 0
+  unfolding doing
+  moved-of-a-dropped-message t =
+      moved-is anc s (reached-in-order anc n s run) 2 a b z
+      ∙ Knowing.dropped-calm anc _ _ b _ _ _ _ (is-dropped (s .group .dead) (named s 2 a) (placeAt s a) (rankAt s (named s 2 a)) (rw to-is t)) .1
+
+-- ---- request 2026-04
+
+-- Owed never shrinks: whatever the event, accepted or not, whom a rank owes it goes on owing.
+pub owed-never-shrinks : (anc : ℕ → ℕ) → Ancestry anc → (n : ℕ) (s : State) → Reaches anc n s → (kind a b j q : ℕ) → has (rankAt s j .owed) q ≡ true → has (rankAt (event anc s kind a b .state) j .owed) q ≡ true
+unfolding refused
+owed-never-shrinks anc tree n s run kind a b j q h = ⊎-elim (λ (z : event anc s kind a b .answer ≡ 0). went (event-moves anc tree s kind a b (reached-in-order anc n s run) z)) stayed (eq-or-ne (event anc s kind a b .answer) 0)
   where
-    sums : planOf anc s kind a b .leaves ≡ namesPlace kind
-        → s .group .count - cond (planOf anc s kind a b .leaves) 1 0 + size (planOf anc s kind a b .acted .first) + size (planOf anc s kind a b .acted .second) ≡ s .group .count - cond (namesPlace kind) 1 0 + (size (planOf anc s kind a b .acted .first) + size (planOf anc s kind a b .acted .second))
-    sums q = rw q (omega arith)
+    went : Move anc (s .group .n) (Entry kind a b) s (event anc s kind a b .state) → has (rankAt (event anc s kind a b .state) j .owed) q ≡ true
+    went (by-rank p k x v f g m w) =
+        ⊎-elim (λ (e : j ≡ p). subst (λ (i : ℕ). has (rankAt (event anc s kind a b .state) i .owed) q ≡ true) (sym e) (m .turn .owed-stays q (subst (λ (i : ℕ). has (rankAt s i .owed) q ≡ true) e h)))
+        (λ (d : j ≡ p → ⊥). rw (m .others j d) h) (eq-or-ne j p)
+    went (by-loss m) = rw (m .ranks-stay j) h
 
-moved-of : (anc : ℕ → ℕ) (s : State) (kind a b : ℕ) → stepped anc s kind a b .answer ≡ 0 → stepped anc s kind a b .moved ≡ acting anc (s .group .n) (s .group .dead) kind b (placeAt s a) (subjectOf s kind a) (rankAt s (subjectOf s kind a)) (rowAt s (subjectOf s kind a)) .moved
-unfolding stepped carried
-moved-of anc s kind a b e = rw (eq-eqb (planOf anc s kind a b .answer) 0 (step-plan anc s kind a b e)) (ap (λ x. x .moved) (step-taken anc s kind a b e .acted-is))
-
--- moved of a notice equals the difference of the fresh tables with and without the mark
-pub moved-of-a-notice : (anc : ℕ → ℕ) (s : State) (a b : ℕ) → stepped anc s 4 a b .answer ≡ 0 → stepped anc s 4 a b .moved ≡ moved anc (s .group .n) (rankAt s (subjectOf s 4 a) .marks) b
-moved-of-a-notice anc s a b e = moved-of anc s 4 a b e ∙ Knowing.notice-moves anc _ _ b _ _ _ _
-
--- moved of an ASK that is taken is the sum over its marks
-pub moved-of-an-ask : (anc : ℕ → ℕ) (s : State) (a b : ℕ) → stepped anc s 2 a b .answer ≡ 0 → placeAt s a .kind ≡ ask → has (s .group .dead) (subjectOf s 2 a) || has (rankAt s (subjectOf s 2 a) .marks) (placeAt s a .from) ≡ false
-    → stepped anc s 2 a b .moved ≡ movedBelow anc (s .group .n) (rankAt s (subjectOf s 2 a) .marks) (placeAt s a .from)
-moved-of-an-ask anc s a b e k t = moved-of anc s 2 a b e ∙ Knowing.ask-moves anc _ _ b _ _ _ _ k (is-undropped (s .group .dead) (subjectOf s 2 a) (placeAt s a) (rankAt s (subjectOf s 2 a)) t)
-
--- every other event moves nothing
-pub moved-of-an-entry : (anc : ℕ → ℕ) (s : State) (a b : ℕ) → stepped anc s 1 a b .answer ≡ 0 → stepped anc s 1 a b .moved ≡ 0
-moved-of-an-entry anc s a b e = moved-of anc s 1 a b e ∙ Knowing.other-calm anc _ _ b _ _ _ _ 1 (λ x. omega arith) (λ x. absurd (omega arith)) .1
-
-pub moved-of-a-word : (anc : ℕ → ℕ) (s : State) (a b : ℕ) → stepped anc s 2 a b .answer ≡ 0 → (placeAt s a .kind ≡ ask → ⊥) → placeAt s a .kind ≤ ask → 0 < placeAt s a .kind → stepped anc s 2 a b .moved ≡ 0
-moved-of-a-word anc s a b e h l g = moved-of anc s 2 a b e ∙ Knowing.other-calm anc _ _ b _ _ _ _ 2 (λ x. omega arith) (λ x. word (eq-or-ne (placeAt s a .kind) up)) .1
-  where
-    word : (placeAt s a .kind ≡ up) ⊎ (placeAt s a .kind ≡ up → ⊥) → (placeAt s a .kind ≡ up) ⊎ (placeAt s a .kind ≡ down)
-    word (inl u) = inl u
-    word (inr u) = inr (omega arith)
-
-pub moved-of-a-crash : (anc : ℕ → ℕ) (s : State) (a b : ℕ) → stepped anc s 3 a b .answer ≡ 0 → stepped anc s 3 a b .moved ≡ 0
-moved-of-a-crash anc s a b e = moved-of anc s 3 a b e ∙ Knowing.other-calm anc _ _ b _ _ _ _ 3 (λ x. omega arith) (λ x. absurd (omega arith)) .1
-
-pub moved-of-a-loss : (anc : ℕ → ℕ) (s : State) (a b : ℕ) → stepped anc s 5 a b .answer ≡ 0 → stepped anc s 5 a b .moved ≡ 0
-moved-of-a-loss anc s a b e = moved-of anc s 5 a b e ∙ Knowing.other-calm anc _ _ b _ _ _ _ 5 (λ x. omega arith) (λ x. absurd (omega arith)) .1
+    stayed : (event anc s kind a b .answer ≡ 0 → ⊥) → has (rankAt (event anc s kind a b .state) j .owed) q ≡ true
+    stayed d = rw (event-refused anc s kind a b d) h

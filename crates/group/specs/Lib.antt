@@ -1,4 +1,5 @@
 pub mod Events
+pub mod Changes
 pub mod Between
 pub mod Reaching
 pub mod Examples

@@ -1,7 +1,8 @@
 -- The tree. A view is the set of ranks marked dead, in a group of n ranks numbered 0 to n - 1.
 -- Everything is said over any ancestor sets `anc`, a word for each rank; the flat tree is one instance.
-use Prim.Native.Nat.{ℕ, zero, suc, _/_, _^_}
-use mathlib.Core.Bool.{Bool, cond, not, _&&_}
+use Prim.Native.Nat.{ℕ, zero, suc, _/_, _^_, _<_}
+use mathlib.Core.Path.{_≡_}
+use mathlib.Core.Bool.{Bool, false, cond, not, _&&_}
 use mathlib.Core.List.{List, [], _∷_, _++_}
 use lib.Dec.{eqb, ltb}
 use lib.ListN.{length, getD}
@@ -63,6 +64,12 @@ links anc marks p = length (path anc marks p)
 
 unfoldable pub reached : (ℕ → ℕ) → ℕ → ℕ → ℕ → ℕ
 reached anc marks p k = getD (p ∷ path anc marks p) k none
+
+-- A root of a view of n ranks: one of them that is unmarked and has no parent.
+pub record IsRoot (anc : ℕ → ℕ) (n marks r : ℕ) : Type 0 where
+  pub inside : r < n
+  pub unmarked : has marks r ≡ false
+  pub parentless : parent anc marks r ≡ none
 
 -- The number of binary digits of p, rank 0 counting as none: the least d with p below 2 ^ d.
 unfoldable pub digits : ℕ → ℕ

@@ -1,17 +1,22 @@
 -- An event along its code: the size, then the order, then the step. Assumes nothing.
-use mathlib.Core.Path.{_≡_, sym, _∙_}
-use mathlib.Core.Bool.{Bool, true, false, not}
+use mathlib.Core.Path.{_≡_, sym, ap, _∙_}
+use mathlib.Core.Bool.{Bool, true, false, cond, not}
+use mathlib.Core.Logic.{_⊎_, inl, inr}
 use Prim.Native.Nat.{ℕ, _<_}
+use lib.Dec.{eqb}
 use borrow.Author.Tests.{not-true, not-false}
+use Rattle.sets.proofs.Laws.Bools.{passes-or-fails, cond-true}
 use Rattle.tree.specs.Tree.{flat}
 use Rattle.tree.specs.Calls.{wrongSize}
-use Rattle.tree.proofs.Laws.Calls.{size-pos, size-right}
+use Rattle.tree.proofs.Laws.Calls.{size-none, size-pos, size-right}
 use Rattle.state.specs.declared.State.{State}
+use Rattle.state.specs.Starting.{started}
+use Rattle.state.proofs.Laws.Starting.{started-none}
 use Rattle.order.specs.Order.{inOrder}
 use Rattle.order.specs.Between.{Shaped, InOrder}
 use Rattle.order.proofs.Laws.Ordering.{in-order-facts}
 use Rattle.group.specs.declared.Stepped.{Stepped}
-use Rattle.group.specs.Events.{refused, stepped, event}
+use Rattle.group.specs.Events.{refused, carried, planOf, stepped, event}
 
 -- ---- an event on a state handed in
 
@@ -39,3 +44,31 @@ unfolding event
 event-steps-on anc s kind a b o =
     let f = in-order-facts anc s o in
     rw (size-right (s .group .n) (f .size-low) (f .size-high), o .tested)
+
+-- ---- refused events
+
+-- A refused start gives a group of size 0, and so refuses every event with 1.
+pub event-on-none : (anc : ℕ → ℕ) (n kind a b : ℕ) → (started anc n .answer ≡ 0 → ⊥) → event anc (started anc n .state) kind a b ≡ refused 1 (started anc n .state)
+unfolding event
+event-on-none anc n kind a b d = cond-true (wrongSize (started anc n .state .group .n)) (refused 1 (started anc n .state)) (cond (inOrder anc (started anc n .state)) (stepped anc (started anc n .state) kind a b) (refused 2 (started anc n .state))) (ap wrongSize (started-none anc n d) ∙ size-none)
+
+-- A refused event hands the state back.
+pub event-refused : (anc : ℕ → ℕ) (s : State) (kind a b : ℕ) → (event anc s kind a b .answer ≡ 0 → ⊥) → event anc s kind a b ≡ refused (event anc s kind a b .answer) s
+unfolding event stepped carried refused
+event-refused anc s kind a b d = size (passes-or-fails (wrongSize (s .group .n)))
+  where
+    step : wrongSize (s .group .n) ≡ false → inOrder anc s ≡ true → (eqb (planOf anc s kind a b .answer) 0 ≡ true) ⊎ (eqb (planOf anc s kind a b .answer) 0 ≡ false) → event anc s kind a b ≡ refused (event anc s kind a b .answer) s
+    step t u (inl v) = absurd (d (rw (t, u, v)))
+    step t u (inr v) = rw (t, u, v)
+
+    order : wrongSize (s .group .n) ≡ false → (inOrder anc s ≡ true) ⊎ (inOrder anc s ≡ false) → event anc s kind a b ≡ refused (event anc s kind a b .answer) s
+    order t (inl u) = step t u (passes-or-fails (eqb (planOf anc s kind a b .answer) 0))
+    order t (inr u) = rw (t, u)
+
+    size : (wrongSize (s .group .n) ≡ true) ⊎ (wrongSize (s .group .n) ≡ false) → event anc s kind a b ≡ refused (event anc s kind a b .answer) s
+    size (inl t) = rw t
+    size (inr t) = order t (passes-or-fails (inOrder anc s))
+
+pub refused-stays : (anc : ℕ → ℕ) (s : State) (kind a b : ℕ) → (event anc s kind a b .answer ≡ 0 → ⊥) → event anc s kind a b .state ≡ s
+unfolding refused
+refused-stays anc s kind a b d = ap (λ (x : Stepped). x .state) (event-refused anc s kind a b d)

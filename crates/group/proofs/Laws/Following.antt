@@ -8,7 +8,7 @@ use native.Mathlib.Omega.{arith}
 use lib.Dec.{eqb}
 use lib.ListN.{length, getD}
 use lib.Seq.{getD-take, getD-set-same, getD-set-other}
-use borrow.Author.Tests.{eq-eqb, ne-eqb}
+use borrow.Author.Tests.{ne-eqb}
 use Rattle.sets.specs.Sets.{has, add}
 use Rattle.sets.proofs.Laws.Bools.{clash, eq-or-ne, cond-false}
 use Rattle.sets.proofs.Laws.Members.{has-add-more}
@@ -41,9 +41,9 @@ use Rattle.plans.proofs.Laws.Cases.{Dropped, delivered-by}
 use Rattle.rank.specs.Rules.{takingUp, takingDown, takingAsk}
 use Rattle.plans.proofs.Laws.Acting.{asker-below}
 use Rattle.group.specs.declared.Stepped.{Stepped}
-use Rattle.group.specs.Events.{posted, applied, carried, subjectOf, planOf, stepped, event}
+use Rattle.group.specs.Events.{posted, applied, subjectOf, planOf, stepped, event}
 use Rattle.group.proofs.Moves.{Flies, Carries, Move, by-rank, by-loss, Entry}
-use Rattle.group.proofs.Laws.Stepping.{step-plan, subject-receives, subject-in}
+use Rattle.group.proofs.Laws.Stepping.{step-plan, step-applied, subject-receives, subject-in}
 use Rattle.group.proofs.Laws.Preserving.{ok, named, listed-there, outcome, list-long}
 use Rattle.group.proofs.Laws.Events.{event-steps-on}
 use Rattle.group.proofs.Laws.Flying.{posted-was, posted-stays, posted-joins, applied-flies, carries-applied}
@@ -262,11 +262,6 @@ module _ (anc : ℕ → ℕ) (s : State) (f : InOrderFacts anc s) (kind a b : �
 -- an accepted event on a state in order is an accepted step
 event-accepted : (anc : ℕ → ℕ) (s : State) (kind a b : ℕ) → InOrder anc s → event anc s kind a b .answer ≡ 0 → stepped anc s kind a b .answer ≡ 0
 event-accepted anc s kind a b o z = sym (ap (λ (x : Stepped). x .answer) (event-steps-on anc s kind a b o)) ∙ z
-
--- an accepted step carries its plan out
-step-applied : (anc : ℕ → ℕ) (s : State) (kind a b : ℕ) → stepped anc s kind a b .answer ≡ 0 → stepped anc s kind a b .state ≡ after s kind a (planOf anc s kind a b)
-unfolding stepped carried
-step-applied anc s kind a b z = rw (eq-eqb (planOf anc s kind a b .answer) 0 (step-plan anc s kind a b z))
 
 -- An accepted event on a state in order is a move; only kind 1 enters a rank, and that one with the word of the event.
 pub event-moves : (anc : ℕ → ℕ) → Ancestry anc → (s : State) (kind a b : ℕ) → InOrder anc s → event anc s kind a b .answer ≡ 0 → Move anc (s .group .n) (Entry kind a b) s (event anc s kind a b .state)

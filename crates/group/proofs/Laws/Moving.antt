@@ -99,17 +99,18 @@ module _ (anc : ℕ → ℕ) (s : State) (o : InOrder anc s) (kind a b : ℕ) (z
   delivered-in-order : kind ≡ 2 → MessageInOrder (s .group .n) (s .group .dead) (placeAt s a)
   delivered-in-order k = facts .message a (clean-place _ _ _ _ _ _ _ _ (step-taken anc s kind a b accepted-step .clean) (names-a-place kind k))
 
+  -- what is delivered and no ASK is an UP or a DOWN
+  pub word-or-ask : kind ≡ 2 → (placeAt s a .kind ≡ ask → ⊥) → (placeAt s a .kind ≡ up) ⊎ (placeAt s a .kind ≡ down)
+  word-or-ask e v =
+      let l = delivered-in-order e in
+      ⊎-elim (λ (u : placeAt s a .kind ≡ up). inl u) (λ (u : placeAt s a .kind ≡ up → ⊥). inr (second (l .kind-low) (l .kind-high) u)) (eq-or-ne (placeAt s a .kind) up)
+    where
+      second : up ≤ placeAt s a .kind → placeAt s a .kind ≤ ask → (placeAt s a .kind ≡ up → ⊥) → placeAt s a .kind ≡ down
+      second x y u = omega arith
+
   -- So do all but a notice and the delivery of an ASK.
   pub others-move-nothing : (kind ≡ 4 → ⊥) → (kind ≡ 2 → placeAt s a .kind ≡ ask → ⊥) → (j : ℕ) → rowAt (event anc s kind a b .state) j ≡ rowAt s j
-  others-move-nothing h k = rows-stay (Knowing.other-calm anc _ _ b _ _ _ _ kind h word .0)
-    where
-      word : kind ≡ 2 → (placeAt s a .kind ≡ up) ⊎ (placeAt s a .kind ≡ down)
-      word e =
-          let l = delivered-in-order e in
-          ⊎-elim (λ (u : placeAt s a .kind ≡ up). inl u) (λ (u : placeAt s a .kind ≡ up → ⊥). inr (second (l .kind-low) (l .kind-high) u (k e))) (eq-or-ne (placeAt s a .kind) up)
-        where
-          second : up ≤ placeAt s a .kind → placeAt s a .kind ≤ ask → (placeAt s a .kind ≡ up → ⊥) → (placeAt s a .kind ≡ ask → ⊥) → placeAt s a .kind ≡ down
-          second x y u v = omega arith
+  others-move-nothing h k = rows-stay (Knowing.other-calm anc _ _ b _ _ _ _ kind h (λ e. word-or-ask e (k e)) .0)
 
 -- ---- a notice
 

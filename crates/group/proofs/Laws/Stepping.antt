@@ -55,6 +55,11 @@ step-stays anc s kind a b d = go (passes-or-fails (eqb (planOf anc s kind a b .a
     go (inl t) = absurd (d (rw t))
     go (inr t) = rw t
 
+-- an accepted step carries its plan out
+pub step-applied : (anc : ℕ → ℕ) (s : State) (kind a b : ℕ) → stepped anc s kind a b .answer ≡ 0 → stepped anc s kind a b .state ≡ applied s a (subjectOf s kind a) (planOf anc s kind a b)
+unfolding stepped carried
+step-applied anc s kind a b z = rw (eq-eqb (planOf anc s kind a b .answer) 0 (step-plan anc s kind a b z))
+
 pub step-taken : (anc : ℕ → ℕ) (s : State) (kind a b : ℕ) → stepped anc s kind a b .answer ≡ 0 → Taken anc s kind a b (planOf anc s kind a b)
 step-taken anc s kind a b e = plan-taken anc s kind a b (planOf anc s kind a b) refl (step-plan anc s kind a b e)
 

@@ -8,7 +8,7 @@ use native.Mathlib.Omega.{arith}
 use lib.Dec.{eqb, leb}
 use borrow.Author.Tests.{eqb-true, eq-eqb, ne-eqb, leb-false}
 use Rattle.sets.specs.Sets.{has, only, minus, below}
-use Rattle.sets.proofs.Laws.Bools.{passes-or-fails, passes, and-i, and-not-r, clash, fails, or-r, or-l, or-cases, not-i}
+use Rattle.sets.proofs.Laws.Bools.{passes-or-fails, passes, and-i, and-not-r, clash, fails, or-r, or-l, or-cases, or-none, not-i}
 use Rattle.sets.proofs.Laws.Members.{has-high, has-only, minus-l, has-below-ge}
 use Rattle.rank.specs.declared.Rank.{Rank}
 use Rattle.rank.specs.declared.Message.{Message}
@@ -105,6 +105,12 @@ refusal-none n dead count kind a b r m e =
     let t9 = cond-zero (isLast n dead kind a) 9 _ (λ x. omega arith) (t8 .1) in
     let t10 = cond-zero (bothLive dead kind m) 10 0 (λ x. omega arith) (t9 .1) in
     record { kind-right = t3 .0; rank-right = t4 .0; place-right = t5 .0; alive = t6 .0; is-outside = t7 .0; told-dead = t8 .0; others-live = t9 .0; end-dead = t10 .0 }
+
+-- a kind that names no place names a rank
+pub clean-names : (n dead c kind a b : ℕ) (r : Rank) (m : Message) → Clean n dead c kind a b r m → namesPlace kind ≡ false → namesRank kind ≡ true
+unfolding wrongKind
+clean-names n dead c kind a b r m x t =
+    passes (namesRank kind) (λ h. clash (not (namesRank kind || namesPlace kind) || (namesPlace kind || eqb kind 3) && not (eqb b 0)) (or-l (not (namesRank kind || namesPlace kind)) ((namesPlace kind || eqb kind 3) && not (eqb b 0)) (not-i (namesRank kind || namesPlace kind) (or-none (namesRank kind) (namesPlace kind) h t))) (x .kind-right))
 
 -- a place that is named holds a message
 pub clean-place : (n dead c kind a b : ℕ) (r : Rank) (m : Message) → Clean n dead c kind a b r m → namesPlace kind ≡ true → a < c

@@ -296,6 +296,10 @@ add-again w p h = ext (add w p) w (λ k. same-test (has (add w p) k) (has w k) (
     was : (k : ℕ) → has (add w p) k ≡ true → has w k ≡ true
     was k t = ⊎-elim (λ (q : has w k ≡ true). q) (λ (q : eqb k p ≡ true). ap (has w) (eqb-true k p q) ∙ h) (or-cases (has w k) (eqb k p) (sym (has-add w p k) ∙ t))
 
+-- a set of ranks below n, cut to those, is itself
+pub meet-below : (w n : ℕ) → ((k : ℕ) → has w k ≡ true → k < n) → meet w (below n) ≡ w
+meet-below w n h = ext (meet w (below n)) w (λ k. has-meet w (below n) k ∙ same-test (has w k && has (below n) k) (has w k) (and-l (has w k) (has (below n) k)) (λ t. and-i (has w k) (has (below n) k) t (has-below-lt n k (h k t))))
+
 -- marking all below k, then k, is marking all below k + 1
 pub union-below-suc : (w k : ℕ) → add (union w (below k)) k ≡ union w (below (suc k))
 union-below-suc w k = ext (add (union w (below k)) k) (union w (below (suc k))) (λ j. same j)

@@ -90,6 +90,11 @@ started-fresh anc n z = ⊎-elim (λ (t : wrongSize n ≡ true). absurd (bad t))
     bad : wrongSize n ≡ true → ⊥
     bad t = let x : _≡_ {A = ℕ} 1 0 = rw t at z in omega arith
 
+-- A refused start gives a group of none.
+pub started-none : (anc : ℕ → ℕ) (n : ℕ) → (started anc n .answer ≡ 0 → ⊥) → started anc n .state .group .n ≡ 0
+unfolding started emptyState
+started-none anc n d = ⊎-elim (λ (t : wrongSize n ≡ true). rw t) (λ (t : wrongSize n ≡ false). absurd (d (rw t))) (passes-or-fails (wrongSize n))
+
 pub empty-state : (r : Rank) (m : Message) (u : State) → r ≡ zeroRank → m ≡ zeroMessage
     → u ≡ joined (record { n = 0; dead = 0; count = 0; ranks = replicate 64 r; net = replicate 128 m }) (replicate 64 (replicate 64 0)) → u ≡ emptyState
 unfolding emptyState

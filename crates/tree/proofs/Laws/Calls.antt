@@ -10,8 +10,9 @@ use lib.Dec.{eqb, ltb}
 use borrow.Author.Tests.{ltb-false, lt-ltb, le-ltb, eq-eqb, ne-eqb, not-true, not-false}
 use Rattle.sets.specs.Sets.{has, meet, minus, below}
 use Rattle.sets.proofs.Laws.Bools.{fails, clash, or-l, or-r}
+use Rattle.sets.proofs.Laws.Members.{meet-below}
 use Rattle.tree.specs.Refusals.{accepted, badSize, notInOrder, badRank}
-use Rattle.tree.specs.Tree.{fresh}
+use Rattle.tree.specs.Tree.{fresh, links, reached}
 use Rattle.tree.specs.Calls.{mended, wrongSize, same, wrongView, markRefused, marked, told, climbing, climbed}
 use Rattle.tree.specs.declared.Mended.{Mended}
 use Rattle.tree.specs.declared.Marked.{Marked}
@@ -117,3 +118,9 @@ module _ (anc : ℕ → ℕ) where
       let w : v ≡ meet marks (below n) = h ∙ ap (meet marks) g in
       let y : has (meet marks (below n)) p ≡ false = sym (i ∙ ap (λ (x : ℕ). has x p) w) ∙ j in
       s ∙ ap (λ (x : ℕ). climbing anc x p a) w ∙ rw (sym e ∙ f, lt-ltb p n l, y)
+
+  -- A climb with allowance enough from an unmarked rank of a view: its whole path.
+  pub climb-whole : (n marks p a : ℕ) → 0 < n → n ≤ 64 → ((k : ℕ) → has marks k ≡ true → k < n) → p < n → has marks p ≡ false → links anc marks p ≤ a
+      → climbed anc n marks p a ≡ record { number = accepted; rank = reached anc marks p (links anc marks p); climbed = links anc marks p }
+  unfolding climbed climbing
+  climb-whole n marks p a z s w l f e = rw (size-right n z s, lt-ltb p n l, meet-below marks n w, f, le-ltb a (links anc marks p) e)

@@ -12,9 +12,9 @@ use lib.ListN.{length, getD, drop, length-drop}
 use lib.Seq.{getD-drop, drop-drop}
 use borrow.Author.Tests.{eq-eqb, ne-eqb, lt-ltb, le-ltb, ltb-true}
 use Rattle.sets.specs.Sets.{none, has, count, smallest}
-use Rattle.sets.proofs.Laws.Bools.{fails, eq-or-ne, cond-true, cond-false}
-use Rattle.sets.proofs.Laws.Searches.{count-fewer, count-wide, count-le, count-add, LeastOf, least, smallest-cases}
-use Rattle.tree.specs.Tree.{flat, parent, upwards, path, links, reached, digits}
+use Rattle.sets.proofs.Laws.Bools.{clash, fails, eq-or-ne, lt-or-le, cond-true, cond-false}
+use Rattle.sets.proofs.Laws.Searches.{count-fewer, count-wide, count-le, count-add, Smallest, LeastOf, least, smallest-cases}
+use Rattle.tree.specs.Tree.{flat, parent, upwards, path, links, reached, IsRoot, digits}
 use Rattle.tree.specs.Relations.{Above, Ancestry}
 use Rattle.tree.proofs.Kin.{Rooted}
 use Rattle.tree.specs.Refusals.{accepted, badSize, badRank, tooShort}
@@ -22,7 +22,7 @@ use Rattle.tree.specs.Calls.{Told, told, climbing}
 use Rattle.tree.specs.declared.Climbed.{Climbed}
 use Rattle.tree.specs.declared.Climbed.the-variants.{Root, Short, WrongSize, WrongRank, FromMarked}
 use Rattle.tree.proofs.Laws.Flat.{flat-suc, flat-ancestry, flat-rooted}
-use Rattle.tree.proofs.Laws.Parents.{Parent, nearest, lowest, nobody, parent-cases, parent-lt, no-parent}
+use Rattle.tree.proofs.Laws.Parents.{Free, Parent, nearest, lowest, nobody, parent-cases, parent-lt, parent-free, no-parent, has-parent}
 
 -- ---- the path, one link at a time
 
@@ -59,8 +59,6 @@ path-link anc marks p h =
     let l : parent anc marks p < p = parent-lt anc marks p h in
     enough anc marks p (suc p) p (omega arith) (omega arith) ∙ a-link anc marks p p h ∙ ap (λ (t : List ℕ). parent anc marks p ∷ t) (enough anc marks p (parent anc marks p) (parent anc marks p) (omega arith) (omega arith))
 
--- ---- no more links than ancestors, where 0 is above every other rank
-
 pub links-root : (anc : ℕ → ℕ) (marks p : ℕ) → parent anc marks p ≡ none → links anc marks p ≡ 0
 unfolding links
 links-root anc marks p e = ap length (path-root anc marks p e)
@@ -68,6 +66,43 @@ links-root anc marks p e = ap length (path-root anc marks p e)
 pub links-link : (anc : ℕ → ℕ) (marks p r : ℕ) → parent anc marks p ≡ r → (r ≡ none → ⊥) → links anc marks p ≡ suc (links anc marks r)
 unfolding links
 links-link anc marks p r e h = ap length (path-link anc marks p (λ x. h (sym e ∙ x))) ∙ ap (λ (x : ℕ). suc (length (path anc marks x))) e
+
+-- ---- where the path ends
+
+reached-root : (anc : ℕ → ℕ) (marks p : ℕ) → parent anc marks p ≡ none → reached anc marks p (links anc marks p) ≡ p
+unfolding reached
+reached-root anc marks p e = ap (λ (k : ℕ). getD (p ∷ path anc marks p) k none) (links-root anc marks p e)
+
+reached-link : (anc : ℕ → ℕ) (marks p : ℕ) → (parent anc marks p ≡ none → ⊥) → reached anc marks p (links anc marks p) ≡ reached anc marks (parent anc marks p) (links anc marks (parent anc marks p))
+unfolding reached
+reached-link anc marks p h =
+    ap (λ (k : ℕ). getD (p ∷ path anc marks p) k none) (links-link anc marks p (parent anc marks p) refl h)
+    ∙ ap (λ (l : List ℕ). getD l (links anc marks (parent anc marks p)) none) (path-link anc marks p h)
+
+-- From an unmarked rank of the group all links lead to a root.
+ends : (anc : ℕ → ℕ) (n marks d p : ℕ) → p ≤ d → p < n → Free marks p → IsRoot anc n marks (reached anc marks p (links anc marks p))
+ends anc n marks zero p h l f = let e : parent anc marks p ≡ none = no-parent anc marks p (λ k m. absurd (omega arith)) in subst (IsRoot anc n marks) (sym (reached-root anc marks p e)) (record { inside = l; unmarked = f; parentless = e })
+ends anc n marks (suc d) p h l f = ⊎-elim root (link (ends anc n marks d (parent anc marks p))) (eq-or-ne (parent anc marks p) none)
+  where
+    root : parent anc marks p ≡ none → IsRoot anc n marks (reached anc marks p (links anc marks p))
+    root e = subst (IsRoot anc n marks) (sym (reached-root anc marks p e)) (record { inside = l; unmarked = f; parentless = e })
+
+    link : (parent anc marks p ≤ d → parent anc marks p < n → Free marks (parent anc marks p) → IsRoot anc n marks (reached anc marks (parent anc marks p) (links anc marks (parent anc marks p)))) → (parent anc marks p ≡ none → ⊥) → IsRoot anc n marks (reached anc marks p (links anc marks p))
+    link ih e =
+        let m : parent anc marks p < p = parent-lt anc marks p e in
+        subst (IsRoot anc n marks) (sym (reached-link anc marks p e)) (ih (omega arith) (omega arith) (parent-free anc marks p e))
+
+pub path-ends : (anc : ℕ → ℕ) (n marks p : ℕ) → p < n → Free marks p → IsRoot anc n marks (reached anc marks p (links anc marks p))
+path-ends anc n marks p = ends anc n marks p p (le-refl p)
+
+-- A view has one root: of two ranks without a parent the smaller would be marked.
+pub one-root : (anc : ℕ → ℕ) (n marks p q : ℕ) → n ≤ none → IsRoot anc n marks p → IsRoot anc n marks q → p ≡ q
+one-root anc n marks p q s a b = ⊎-elim (λ (e : p ≡ q). e) (λ (d : p ≡ q → ⊥). absurd (⊎-elim (after p q a b) (λ (l : q ≤ p). after q p b a (let d′ : p ≡ q → ⊥ = d in omega arith)) (lt-or-le p q))) (eq-or-ne p q)
+  where
+    after : (x y : ℕ) → IsRoot anc n marks x → IsRoot anc n marks y → x < y → ⊥
+    after x y c d l = has-parent anc marks y x (let m : y < n = d .inside in omega arith) l (c .unmarked) (d .parentless)
+
+-- ---- no more links than ancestors, where 0 is above every other rank
 
 module _ (anc : ℕ → ℕ) (tree : Ancestry anc) (rooted : Rooted anc) (marks : ℕ) where
   size : ℕ → ℕ
@@ -116,13 +151,20 @@ lt-two-pow : (p : ℕ) → p < 2 ^ p
 lt-two-pow zero = omega arith
 lt-two-pow (suc p) = omega (arith, two-pow-succ p, lt-two-pow p)
 
-digits-enough : (p : ℕ) → p < 2 ^ digits p
+-- The digits of p are the least d with p below 2 ^ d.
+digits-found : (p : ℕ) → Smallest (λ d. ltb p (2 ^ d)) (suc p) (digits p)
 unfolding digits
-digits-enough p = go (smallest (λ d. ltb p (2 ^ d)) (suc p) p) (smallest-cases (λ d. ltb p (2 ^ d)) (suc p) p)
+digits-found p = go (smallest (λ d. ltb p (2 ^ d)) (suc p) p) (smallest-cases (λ d. ltb p (2 ^ d)) (suc p) p)
   where
-    go : (r : ℕ) → LeastOf (λ d. ltb p (2 ^ d)) (suc p) p r → p < 2 ^ r
-    go r (least s) = ltb-true p (2 ^ r) (s .passes)
-    go r (LeastOf.empty f) = lt-two-pow p
+    go : (r : ℕ) → LeastOf (λ d. ltb p (2 ^ d)) (suc p) p r → Smallest (λ d. ltb p (2 ^ d)) (suc p) r
+    go r (least s) = s
+    go r (LeastOf.empty f) = absurd (clash (ltb p (2 ^ p)) (lt-ltb p (2 ^ p) (lt-two-pow p)) (f p (omega arith)))
+
+pub digits-enough : (p : ℕ) → p < 2 ^ digits p
+digits-enough p = ltb-true p (2 ^ digits p) (digits-found p .passes)
+
+pub digits-least : (p d : ℕ) → p < 2 ^ d → digits p ≤ d
+digits-least p d l = ⊎-elim (λ (h : d < digits p). absurd (clash (ltb p (2 ^ d)) (lt-ltb p (2 ^ d) l) (digits-found p .first d h))) (λ (h : digits p ≤ d). h) (lt-or-le d (digits p))
 
 -- From any rank the climb to the view's root takes no more links than the rank's number has binary digits, rank 0 counting as none.
 pub climb-within-digits : (marks p : ℕ) → p ≤ none → links flat marks p ≤ digits p
