@@ -1,76 +1,131 @@
--- The final state of an accepted run is reached by its accepted events, so that all of demand 3 holds of it. Assumes nothing.
-use mathlib.Core.Path.{_≡_, sym, ap, subst, _∙_}
+-- A run's states and numbers are those of `event`, one event after the other: so its final state is reached by accepted events, and all of
+-- demand 3 holds of it. Assumes nothing.
+use mathlib.Core.Path.{_≡_, refl, sym, ap, subst, _∙_}
 use mathlib.Core.List.{List}
-use mathlib.Core.Logic.{_⊎_, inl, inr}
-use Prim.Native.Nat.{ℕ, zero, suc, _+_}
+use mathlib.Core.Logic.{_⊎_, inl, inr, ⊎-elim}
+use Prim.Native.Nat.{ℕ, zero, suc, _+_, _*_, _≤_, _<_}
+use native.Mathlib.Numerals.{add-one}
 use native.Mathlib.Omega.{arith}
+use lib.ListN.{length, getD, set, length-set}
+use lib.Seq.{getD-set-same, getD-set-other}
 use Rattle.sets.proofs.Laws.Bools.{eq-or-ne}
 use Rattle.tree.specs.Tree.{flat}
 use Rattle.state.specs.declared.State.{State}
-use Rattle.state.specs.Starting.{freshState}
+use Rattle.state.specs.Starting.{freshState, started}
 use Rattle.state.proofs.Laws.Starting.{started-small}
-use Rattle.order.specs.Between.{InOrder}
 use Rattle.group.specs.declared.Stepped.{Stepped}
 use Rattle.group.specs.Reaching.{Reaches, begun, next}
-use Rattle.group.proofs.Laws.Stepping.{step-stays}
-use Rattle.group.proofs.Laws.Events.{event-steps-on}
+use Rattle.group.proofs.Laws.Events.{event-steps-on, refused-stays}
 use Rattle.group.proofs.Laws.Reached.{reached-in-order}
 use Rattle.files.specs.Files.{byteAt, eventAt, eventsIn}
-use Rattle.schedule.specs.Runs.{Run, stepAt, written, played, acceptedRun, run}
-use Rattle.schedule.specs.Reaching.{eventOf, After, taken, left}
-use Rattle.schedule.specs.Reaching as Schedule
-use Rattle.schedule.proofs.Laws.Ending.{Whole, run-whole}
+use Rattle.schedule.specs.Runs.{End, Run, stepAt, written, played, acceptedRun, run}
+use Rattle.schedule.specs.Reaching.{eventOf, stateAfter, NumbersOf}
+use Rattle.schedule.proofs.Laws.Runs.{written-long}
+use Rattle.schedule.proofs.Laws.Ending.{run-whole}
 
--- The states of a schedule are states of the group.
-pub after-reaches : (anc : ℕ → ℕ) (file : List ℕ) (n k : ℕ) (s : State) → After anc file n k s → Reaches anc n s
-unfolding eventOf
-after-reaches anc file n k s (Schedule.begun z) = begun z
-after-reaches anc file n k s (taken k′ s′ p z) = next s′ (eventAt file k′ .kind) (eventAt file k′ .a) (eventAt file k′ .b) (after-reaches anc file n k′ s′ p) z
-after-reaches anc file n k s (left k′ s′ p z) = after-reaches anc file n k′ s′ p
+-- ---- what is written
 
--- A run's own step is the event on a state in order.
-step-is : (anc : ℕ → ℕ) (file : List ℕ) (k : ℕ) (s : State) → InOrder anc s → eventOf anc file k s ≡ stepAt anc file k s
-unfolding eventOf stepAt
-step-is anc file k s o = event-steps-on anc s (eventAt file k .kind) (eventAt file k .a) (eventAt file k .b) o
+-- An event's three numbers, and no place before them changes.
+written-tells : (out : List ℕ) (k : ℕ) (r : Stepped) → 3 * k + 3 ≤ length out → NumbersOf r (written out k (r .answer) (r .sent) (r .moved)) k
+unfolding written
+written-tells out k r l =
+    let one = set out (3 * k) (r .answer) in
+    let two = set one (3 * k + 1) (r .sent) in
+    let la : length one ≡ length out = length-set out (3 * k) (r .answer) in
+    let lb : length two ≡ length one = length-set one (3 * k + 1) (r .sent) in
+    record {
+      answer-is = getD-set-other two (3 * k + 2) (3 * k) (r .moved) 0 (λ x. omega arith) ∙ getD-set-other one (3 * k + 1) (3 * k) (r .sent) 0 (λ x. omega arith) ∙ getD-set-same out (3 * k) (r .answer) 0 (omega arith);
+      sent-is = getD-set-other two (3 * k + 2) (3 * k + 1) (r .moved) 0 (λ x. omega arith) ∙ getD-set-same one (3 * k + 1) (r .sent) 0 (omega arith);
+      moved-is = getD-set-same two (3 * k + 2) (r .moved) 0 (omega arith);
+    }
 
-step-left : (anc : ℕ → ℕ) (file : List ℕ) (k : ℕ) (s : State) → (stepAt anc file k s .answer ≡ 0 → ⊥) → stepAt anc file k s .state ≡ s
-unfolding stepAt
-step-left anc file k s = step-stays anc s (eventAt file k .kind) (eventAt file k .a) (eventAt file k .b)
+written-keeps : (out : List ℕ) (k x y z i : ℕ) → i < 3 * k → getD (written out k x y z) i 0 ≡ getD out i 0
+unfolding written
+written-keeps out k x y z i l =
+    getD-set-other (set (set out (3 * k) x) (3 * k + 1) y) (3 * k + 2) i z 0 (λ e. omega arith)
+    ∙ getD-set-other (set out (3 * k) x) (3 * k + 1) i y 0 (λ e. omega arith) ∙ getD-set-other out (3 * k) i x 0 (λ e. omega arith)
 
-after-step : (anc : ℕ → ℕ) (file : List ℕ) (n k : ℕ) (s : State) → After anc file n k s → After anc file n (k + 1) (stepAt anc file k s .state)
-after-step anc file n k s p = go (eq-or-ne (stepAt anc file k s .answer) 0)
-  where
-    same : eventOf anc file k s ≡ stepAt anc file k s
-    same = step-is anc file k s (reached-in-order anc n s (after-reaches anc file n k s p))
-
-    go : (stepAt anc file k s .answer ≡ 0) ⊎ (stepAt anc file k s .answer ≡ 0 → ⊥) → After anc file n (k + 1) (stepAt anc file k s .state)
-    go (inl z) = subst (λ (x : Stepped). After anc file n (k + 1) (x .state)) same (taken k s p (ap (λ (x : Stepped). x .answer) same ∙ z))
-    go (inr d) = subst (After anc file n (k + 1)) (sym (step-left anc file k s d)) (left k s p (λ z. d (sym (ap (λ (x : Stepped). x .answer) same) ∙ z)))
-
-after-played : (anc : ℕ → ℕ) (file : List ℕ) (n more k : ℕ) (s : State) (out : List ℕ) → After anc file n k s → After anc file n (k + more) (played anc file more k s out .state)
+played-keeps : (anc : ℕ → ℕ) (file : List ℕ) (more k : ℕ) (s : State) (out : List ℕ) (i : ℕ) → i < 3 * k → getD (played anc file more k s out .answers) i 0 ≡ getD out i 0
 unfolding played
-after-played anc file n zero k s out p = subst (λ (i : ℕ). After anc file n i s) (let e : k ≡ k + 0 = omega arith in e) p
-after-played anc file n (suc more) k s out p =
-    let q = after-played anc file n more (k + 1) (stepAt anc file k s .state) (written out k (stepAt anc file k s .answer) (stepAt anc file k s .sent) (stepAt anc file k s .moved)) (after-step anc file n k s p) in
-    let e : k + 1 + more ≡ k + suc more = omega arith in
-    subst (λ (i : ℕ). After anc file n i (played anc file more (k + 1) (stepAt anc file k s .state) (written out k (stepAt anc file k s .answer) (stepAt anc file k s .sent) (stepAt anc file k s .moved)) .state)) e q
+played-keeps anc file zero k s out i l = refl
+played-keeps anc file (suc more) k s out i l =
+    let r = stepAt anc file k s in
+    played-keeps anc file more (k + 1) (r .state) (written out k (r .answer) (r .sent) (r .moved)) i (omega arith) ∙ written-keeps out k (r .answer) (r .sent) (r .moved) i l
 
--- The final state of an accepted run is the one after all of the file's events, from a start of the file's size.
-pub run-after : (file out : List ℕ) → run flat file out .answer ≡ 0 → After flat file (byteAt file 5) (eventsIn file) (run flat file out .state)
-unfolding acceptedRun
-run-after file out r = run-whole file out (After flat file (byteAt file 5) (eventsIn file) (run flat file out .state)) r whole
-  where
-    whole : (n events : ℕ) → Whole file out n events → After flat file (byteAt file 5) (eventsIn file) (run flat file out .state)
-    whole n events w =
-        let st : run flat file out .state ≡ played flat file events 0 (freshState flat n) out .state = ap (λ (x : Run). x .state) (w .run-is) in
-        let f = started-small flat n (w .opens .size) in
-        let p : After flat file n 0 (freshState flat n) = subst (After flat file n 0) (f .1) (Schedule.begun (f .0)) in
-        let z : 0 + events ≡ events = omega arith in
-        let q : After flat file n events (played flat file events 0 (freshState flat n) out .state) = subst (λ (i : ℕ). After flat file n i (played flat file events 0 (freshState flat n) out .state)) z (after-played flat file n events 0 (freshState flat n) out p) in
-        subst (λ (i : ℕ). After flat file i (eventsIn file) (run flat file out .state)) (w .opens .size-is)
-        (subst (λ (i : ℕ). After flat file n i (run flat file out .state)) (w .opens .events-are)
-        (subst (After flat file n events) (sym st) q))
+numbers-keep : (r : Stepped) (a b : List ℕ) (k : ℕ) → ((i : ℕ) → i < 3 * (k + 1) → getD b i 0 ≡ getD a i 0) → NumbersOf r a k → NumbersOf r b k
+numbers-keep r a b k h t = record { answer-is = h (3 * k) (omega arith) ∙ t .answer-is; sent-is = h (3 * k + 1) (omega arith) ∙ t .sent-is; moved-is = h (3 * k + 2) (omega arith) ∙ t .moved-is }
 
--- So it is reached by accepted events.
+-- ---- event by event
+
+module _ (anc : ℕ → ℕ) (file : List ℕ) (n : ℕ) (begins : started anc n .answer ≡ 0) where
+  -- The states of a schedule are states of the group.
+  pub after-reaches : (k : ℕ) → Reaches anc n (stateAfter anc file n k)
+  unfolding stateAfter eventOf
+  after-reaches zero = begun begins
+  after-reaches (suc k) = go (stateAfter anc file n k) (after-reaches k) (eq-or-ne (eventOf anc file k (stateAfter anc file n k) .answer) 0)
+    where
+      go : (s : State) → Reaches anc n s → (eventOf anc file k s .answer ≡ 0) ⊎ (eventOf anc file k s .answer ≡ 0 → ⊥) → Reaches anc n (eventOf anc file k s .state)
+      go s run (inl z) = next s (eventAt file k .kind) (eventAt file k .a) (eventAt file k .b) run z
+      go s run (inr d) = subst (Reaches anc n) (sym (refused-stays anc s (eventAt file k .kind) (eventAt file k .a) (eventAt file k .b) d)) run
+
+  -- A run's own step is the event.
+  step-is : (k : ℕ) → eventOf anc file k (stateAfter anc file n k) ≡ stepAt anc file k (stateAfter anc file n k)
+  unfolding eventOf stepAt
+  step-is k = event-steps-on anc (stateAfter anc file n k) (eventAt file k .kind) (eventAt file k .a) (eventAt file k .b) (reached-in-order anc n (stateAfter anc file n k) (after-reaches k))
+
+  -- One event of a run that is at the schedule's own state.
+  plays : (more k : ℕ) (out : List ℕ) → played anc file (suc more) k (stateAfter anc file n k) out
+      ≡ played anc file more (suc k) (stateAfter anc file n (suc k)) (written out k (eventOf anc file k (stateAfter anc file n k) .answer) (eventOf anc file k (stateAfter anc file n k) .sent) (eventOf anc file k (stateAfter anc file n k) .moved))
+  unfolding played stateAfter
+  plays more k out =
+      let t = stepAt anc file k (stateAfter anc file n k) in
+      ap (λ (i : ℕ). played anc file more i (t .state) (written out k (t .answer) (t .sent) (t .moved))) (add-one k)
+      ∙ ap (λ (r : Stepped). played anc file more (suc k) (r .state) (written out k (r .answer) (r .sent) (r .moved))) (sym (step-is k))
+
+  after-played : (more k : ℕ) (out : List ℕ) → played anc file more k (stateAfter anc file n k) out .state ≡ stateAfter anc file n (k + more)
+  unfolding played
+  after-played zero k out = ap (stateAfter anc file n) (let e : k ≡ k + 0 = omega arith in e)
+  after-played (suc more) k out =
+      let r = eventOf anc file k (stateAfter anc file n k) in
+      ap (λ (e : End). e .state) (plays more k out) ∙ after-played more (suc k) (written out k (r .answer) (r .sent) (r .moved)) ∙ ap (stateAfter anc file n) (let e : suc k + more ≡ k + suc more = omega arith in e)
+
+  numbers-played : (more k j : ℕ) (out : List ℕ) → 3 * (k + more) ≤ length out → k ≤ j → j < k + more → NumbersOf (eventOf anc file j (stateAfter anc file n j)) (played anc file more k (stateAfter anc file n k) out .answers) j
+  numbers-played zero k j out r l m = absurd (omega arith)
+  numbers-played (suc more) k j out r l m =
+      let t = eventOf anc file k (stateAfter anc file n k) in
+      let o : List ℕ = written out k (t .answer) (t .sent) (t .moved) in
+      let e : length o ≡ length out = written-long out k (t .answer) (t .sent) (t .moved) in
+      subst (λ (x : End). NumbersOf (eventOf anc file j (stateAfter anc file n j)) (x .answers) j) (sym (plays more k out))
+      (⊎-elim
+      (λ (q : j ≡ k). subst (λ (i : ℕ). NumbersOf (eventOf anc file i (stateAfter anc file n i)) (played anc file more (suc k) (stateAfter anc file n (suc k)) o .answers) i) (sym q) (numbers-keep t o (played anc file more (suc k) (stateAfter anc file n (suc k)) o .answers) k (λ i b. played-keeps anc file more (suc k) (stateAfter anc file n (suc k)) o i (omega arith)) (written-tells out k t (omega arith))))
+      (λ (q : j ≡ k → ⊥). numbers-played more (suc k) j o (omega arith) (omega arith) (omega arith))
+      (eq-or-ne j k))
+
+-- ---- an accepted run
+
+module _ (file out : List ℕ) (z : run flat file out .answer ≡ 0) where
+  -- The file's size is a right one.
+  pub run-begins : started flat (byteAt file 5) .answer ≡ 0
+  run-begins = run-whole file out (started flat (byteAt file 5) .answer ≡ 0) z (λ n events w. subst (λ (m : ℕ). started flat m .answer ≡ 0) (w .opens .size-is) (started-small flat n (w .opens .size) .0))
+
+  ran : (C : Type 0) → ((3 * eventsIn file ≤ length out) → run flat file out ≡ acceptedRun (played flat file (eventsIn file) 0 (stateAfter flat file (byteAt file 5) 0) out) → C) → C
+  unfolding stateAfter
+  ran C go = run-whole file out C z (λ n events w. go (subst (λ (t : ℕ). 3 * t ≤ length out) (w .opens .events-are) (w .room)) (w .run-is ∙ ap acceptedRun (ap (λ (t : ℕ). played flat file t 0 (freshState flat n) out) (w .opens .events-are) ∙ ap (λ (s : State). played flat file (eventsIn file) 0 s out) (sym (started-small flat n (w .opens .size) .1) ∙ ap (λ (m : ℕ). started flat m .state) (w .opens .size-is)))))
+
+  -- Its final state is the one after all of the file's events, from a start of the file's size.
+  pub run-after : run flat file out .state ≡ stateAfter flat file (byteAt file 5) (eventsIn file)
+  unfolding acceptedRun
+  run-after = ran (run flat file out .state ≡ stateAfter flat file (byteAt file 5) (eventsIn file)) (λ r e. ap (λ (x : Run). x .state) e ∙ after-played flat file (byteAt file 5) run-begins (eventsIn file) 0 out ∙ ap (stateAfter flat file (byteAt file 5)) (let q : 0 + eventsIn file ≡ eventsIn file = omega arith in q))
+
+  -- The three numbers that it writes of the event at place k are answer, sent and moved of `event` on the state after the first k events.
+  pub run-numbers : (k : ℕ) → k < eventsIn file → NumbersOf (eventOf flat file k (stateAfter flat file (byteAt file 5) k)) (run flat file out .answers) k
+  unfolding acceptedRun
+  run-numbers k l = ran (NumbersOf (eventOf flat file k (stateAfter flat file (byteAt file 5) k)) (run flat file out .answers) k) (λ r e. subst (λ (x : Run). NumbersOf (eventOf flat file k (stateAfter flat file (byteAt file 5) k)) (x .answers) k) (sym e) (numbers-played flat file (byteAt file 5) run-begins (eventsIn file) 0 k out (omega arith) (omega arith) (omega arith)))
+
+  -- Every state on the way is reached by accepted events,
+  pub states-reached : (k : ℕ) → Reaches flat (byteAt file 5) (stateAfter flat file (byteAt file 5) k)
+  states-reached = after-reaches flat file (byteAt file 5) run-begins
+
+-- and so is the final one.
 pub run-reaches : (file out : List ℕ) → run flat file out .answer ≡ 0 → Reaches flat (byteAt file 5) (run flat file out .state)
-run-reaches file out z = after-reaches flat file (byteAt file 5) (eventsIn file) (run flat file out .state) (run-after file out z)
+run-reaches file out z = subst (Reaches flat (byteAt file 5)) (sym (run-after file out z)) (states-reached file out z (eventsIn file))

@@ -3,7 +3,9 @@ use mathlib.Core.Path.{_≡_, refl, sym, ap, subst, _∙_}
 use mathlib.Core.Bool.{true, false}
 use mathlib.Core.List.{List, []}
 use Prim.Native.Nat.{ℕ, _*_, _≤_, _<_}
-use lib.ListN.{length}
+use native.Mathlib.Omega.{arith}
+use lib.ListN.{length, take}
+use lib.Seq.{length-take-le}
 use borrow.Author.Tests.{lt-ltb, le-ltb}
 use Rattle.sets.proofs.Laws.Bools.{clash}
 use Rattle.tree.specs.Tree.{flat}
@@ -17,8 +19,8 @@ use Rattle.order.specs.Between.{InOrder}
 use Rattle.order.proofs.Laws.Fresh.{fresh-in-order}
 use Rattle.files.specs.declared.Header.{Header}
 use Rattle.files.specs.declared.Header.the-variants.{Good, NoHeader, WrongMark, WrongVersion, WrongSize, TooLong, Broken}
-use Rattle.files.specs.Files.{header, numberOf}
-use Rattle.files.proofs.Laws.Opening.{goodness, good-opened}
+use Rattle.files.specs.Files.{longest, header, numberOf}
+use Rattle.files.proofs.Laws.Opening.{goodness, good-opened, bad-number, long-bad, long-start}
 use Rattle.schedule.specs.Runs.{Run, played, refusedRun, acceptedRun, opened, run}
 
 -- The group that a good header starts is in order.
@@ -70,3 +72,20 @@ run-accepted file out v h n t u s e f l g i j =
     parts-of file out v 0 s (acceptedRun (played flat file t 0 (freshState flat n) out))
     (ap (opened flat file out) (sym e ∙ f) ∙ rw (le-ltb (length out) (3 * t) l)) refl
     (i ∙ ap (λ (x : State). played flat file t 0 x out .state) q) (j ∙ ap (λ (x : State). played flat file t 0 x out .answers) q)
+
+-- ---- a file that is too long
+
+long-run : (file out : List ℕ) → longest < length file → run flat file out ≡ refusedRun (numberOf (header file)) out
+unfolding run
+long-run file out l = opened-bad file out (header file) (long-bad file l)
+
+-- It is refused,
+pub long-refused : (file out : List ℕ) → longest < length file → run flat file out .answer ≡ 0 → ⊥
+unfolding refusedRun
+long-refused file out l z = bad-number (header file) (long-bad file l) (sym (ap (λ (x : Run). x .answer) (long-run file out l)) ∙ z)
+
+-- and alike whatever follows the bytes that show it.
+pub long-alike : (file out : List ℕ) (n : ℕ) → longest < n → n ≤ length file → run flat (take n file) out ≡ run flat file out
+long-alike file out n l m =
+    let e : length (take n file) ≡ n = length-take-le n file m in
+    long-run (take n file) out (omega arith) ∙ ap (λ (h : Header). refusedRun (numberOf h) out) (long-start file n l m) ∙ sym (long-run file out (omega arith))

@@ -1,22 +1,21 @@
 -- What a run writes does not depend on what the slice held: the same answer, the same final state, and the same number at every place that an
 -- event writes. Assumes nothing.
 use mathlib.Core.Path.{_≡_, refl, sym, ap, _∙_}
-use mathlib.Core.Bool.{true, false}
+use mathlib.Core.Bool.{false}
 use mathlib.Core.List.{List}
-use mathlib.Core.Logic.{_⊎_, inl, inr, ⊎-elim}
+use mathlib.Core.Logic.{⊎-elim}
 use Prim.Native.Nat.{ℕ, zero, suc, _+_, _*_, _≤_, _<_}
 use native.Mathlib.Omega.{arith}
-use lib.Dec.{ltb}
 use lib.ListN.{length, getD, set, length-set}
 use lib.Seq.{getD-set-same, getD-set-other}
-use borrow.Author.Tests.{ltb-false}
-use Rattle.sets.proofs.Laws.Bools.{passes-or-fails, eq-or-ne}
+use borrow.Author.Tests.{le-ltb}
+use Rattle.sets.proofs.Laws.Bools.{eq-or-ne}
 use Rattle.tree.specs.Tree.{flat}
 use Rattle.state.specs.declared.State.{State}
 use Rattle.state.specs.Starting.{freshState}
 use Rattle.files.specs.declared.Header.{Header}
 use Rattle.files.specs.declared.Header.the-variants.{Good, NoHeader, WrongMark, WrongVersion, WrongSize, TooLong, Broken}
-use Rattle.files.specs.Files.{eventsIn, header, numberOf}
+use Rattle.files.specs.Files.{mostEvents, longest, eventsIn, header, numberOf}
 use Rattle.files.proofs.Laws.Opening.{goodness, good-opened, bad-number}
 use Rattle.schedule.specs.Runs.{Run, stepAt, written, played, refusedRun, acceptedRun, opened, run}
 use Rattle.schedule.proofs.Laws.Runs.{written-long}
@@ -59,19 +58,19 @@ states-agree file (suc left) k s a b =
     states-agree file left (k + 1) (r .state) (written a k (r .answer) (r .sent) (r .moved)) (written b k (r .answer) (r .sent) (r .moved))
 
 -- Every event writes its three numbers.
-answers-agree : (file : List ℕ) (left k : ℕ) (s : State) (a b : List ℕ) → length a ≡ length b → 3 * (k + left) ≤ length a → Agree a b (3 * k)
+answers-agree : (file : List ℕ) (left k : ℕ) (s : State) (a b : List ℕ) → 3 * (k + left) ≤ length a → 3 * (k + left) ≤ length b → Agree a b (3 * k)
     → Agree (played flat file left k s a .answers) (played flat file left k s b .answers) (3 * (k + left))
 unfolding played
-answers-agree file zero k s a b e r h = λ j l. h j (omega arith)
-answers-agree file (suc left) k s a b e r h =
+answers-agree file zero k s a b q r h = λ j l. h j (omega arith)
+answers-agree file (suc left) k s a b q r h =
     let t = stepAt flat file k s in
     let a1 = written a k (t .answer) (t .sent) (t .moved) in
     let b1 = written b k (t .answer) (t .sent) (t .moved) in
     let la : length a1 ≡ length a = written-long a k (t .answer) (t .sent) (t .moved) in
     let lb : length b1 ≡ length b = written-long b k (t .answer) (t .sent) (t .moved) in
     let g : Agree a1 b1 (3 * (k + 1)) = agree-written a b k (t .answer) (t .sent) (t .moved) (omega arith) (omega arith) h in
-    let q : Agree (played flat file left (k + 1) (t .state) a1 .answers) (played flat file left (k + 1) (t .state) b1 .answers) (3 * (k + 1 + left)) = answers-agree file left (k + 1) (t .state) a1 b1 (omega arith) (omega arith) g in
-    λ j l. q j (omega arith)
+    let z : Agree (played flat file left (k + 1) (t .state) a1 .answers) (played flat file left (k + 1) (t .state) b1 .answers) (3 * (k + 1 + left)) = answers-agree file left (k + 1) (t .state) a1 b1 (omega arith) (omega arith) g in
+    λ j l. z j (omega arith)
 
 -- ---- the whole run
 
@@ -80,20 +79,23 @@ pub record SameRun (file a b : List ℕ) : Type 0 where
   pub state-same : run flat file a .state ≡ run flat file b .state
   pub answers-same : run flat file a .answer ≡ 0 → Agree (run flat file a .answers) (run flat file b .answers) (3 * eventsIn file)
 
-pub same-run : (file a b : List ℕ) → length a ≡ length b → SameRun file a b
+-- A slice with room for the most events is never too short.
+pub same-run : (file a b : List ℕ) → 3 * mostEvents ≤ length a → 3 * mostEvents ≤ length b → SameRun file a b
 unfolding run opened refusedRun acceptedRun
-same-run file a b e = from (header file) refl
+same-run file a b ra rb = from (header file) refl
   where
-    room : (n t : ℕ) → header file ≡ Good n t → (ltb (length b) (3 * t) ≡ true) ⊎ (ltb (length b) (3 * t) ≡ false) → SameRun file a b
-    room n t h (inl l) = record { answer-same = rw (h, e, l); state-same = rw (h, e, l); answers-same = λ z. let q : run flat file a .answer ≡ 25 = rw (h, e, l) in absurd (omega arith) }
-    room n t h (inr l) =
-        let m : 3 * t ≤ length b = ltb-false (length b) (3 * t) l in
+    good : (n t : ℕ) → header file ≡ Good n t → SameRun file a b
+    good n t h =
         let o = good-opened file n t (sym h) in
-        let g : Agree (played flat file t 0 (freshState flat n) a .answers) (played flat file t 0 (freshState flat n) b .answers) (3 * (0 + t)) = answers-agree file t 0 (freshState flat n) a b e (omega arith) (λ j k. absurd (omega arith)) in
+        let w : 6 + 9 * t ≤ length file = o .whole in
+        let s : length file ≤ longest = o .short in
+        let la : 3 * t ≤ length a = omega arith in
+        let lb : 3 * t ≤ length b = omega arith in
+        let g : Agree (played flat file t 0 (freshState flat n) a .answers) (played flat file t 0 (freshState flat n) b .answers) (3 * (0 + t)) = answers-agree file t 0 (freshState flat n) a b (omega arith) (omega arith) (λ j k. absurd (omega arith)) in
         record {
-          answer-same = rw (h, e, l);
-          state-same = rw (h, e, l) (states-agree file t 0 (freshState flat n) a b);
-          answers-same = λ z. rw (h, e, l) (λ j k. g j (omega (arith, o .events-are)));
+          answer-same = rw (h, le-ltb (length a) (3 * t) la, le-ltb (length b) (3 * t) lb);
+          state-same = rw (h, le-ltb (length a) (3 * t) la, le-ltb (length b) (3 * t) lb) (states-agree file t 0 (freshState flat n) a b);
+          answers-same = λ z. rw (h, le-ltb (length a) (3 * t) la, le-ltb (length b) (3 * t) lb) (λ j k. g j (omega (arith, o .events-are)));
         }
 
     bad : (h : Header) → header file ≡ h → goodness h ≡ false → SameRun file a b
@@ -107,7 +109,7 @@ same-run file a b e = from (header file) refl
         }
 
     from : (h : Header) → header file ≡ h → SameRun file a b
-    from (Good n t) h = room n t h (passes-or-fails (ltb (length b) (3 * t)))
+    from (Good n t) h = good n t h
     from NoHeader h = bad NoHeader h refl
     from WrongMark h = bad WrongMark h refl
     from WrongVersion h = bad WrongVersion h refl
