@@ -34,7 +34,9 @@ function judge(   i, path, own, as) {
     path = crate "." path name; gsub(/[.]/, "::", path)
     sub(/^[^(]*[(]/, "", header); sub(/[)].*/, "", header)
     params = split(header, param, ",")
-    functions++; seen[path] = 1
+    seen[path] = 1
+    if (index(" " exceptions " ", " " path " ")) return
+    functions++
     if (as != own && (depth == 0 || as != tolower(scope[depth - 1]) "-" own) || !determines(theorem[crate, as "-determined"], as))
         complain(path " has no theorem in crates/" crate "/proofs/Determined.antt that it leaves nothing open")
     if (!index(" " entries " ", " " path " ")) return
@@ -72,6 +74,8 @@ code && header != "" {
 }
 
 END {
+    split(exceptions, exception, " ")
+    for (i in exception) if (!(exception[i] in seen)) complain("there is no function " exception[i])
     n = split(entries, entry, " ")
     for (i = 1; i <= n; i++) if (!(entry[i] in seen)) complain("there is no entry point " entry[i])
     if (!bad) print "determined: " functions " public functions, each leaves nothing open; " n " entry points ask nothing"

@@ -11,6 +11,13 @@ use Rattle.files.specs.declared.Event.{Event}
 use Rattle.files.specs.declared.Header.{Header}
 use Rattle.files.specs.declared.Header.the-variants.{Good, NoHeader, WrongMark, WrongVersion, WrongSize, TooLong, Broken}
 
+-- At most 4,096 events, and so at most 36,870 bytes.
+abbrev pub mostEvents : ℕ
+mostEvents = 4096
+
+abbrev pub longest : ℕ
+longest = 36870
+
 unfoldable pub byteAt : List ℕ → ℕ → ℕ
 byteAt file i = getD file i 0
 
@@ -49,7 +56,7 @@ header file =
     (cond (wrongMark file) WrongMark
     (cond (wrongVersion file) WrongVersion
     (cond (wrongSize (byteAt file 5)) WrongSize
-    (cond (ltb 36870 (length file)) TooLong
+    (cond (ltb longest (length file)) TooLong
     (cond (broken file) Broken
     (Good (byteAt file 5) (eventsIn file)))))))
 

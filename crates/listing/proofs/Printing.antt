@@ -1,19 +1,22 @@
--- What the program prints is a matter of the file alone: the slice that it lends may hold anything. Assumes nothing.
+-- What the program prints is a matter of the file alone, and of no more than its first 36,871 bytes: the slice that is lent may hold anything.
+-- Assumes nothing.
 use mathlib.Core.Path.{_≡_, refl, sym, ap, _∙_}
 use mathlib.Core.List.{List}
 use mathlib.Core.Logic.{⊎-elim}
-use Prim.Native.Nat.{ℕ, zero, suc, _+_, _*_, _<_}
+use Prim.Native.Nat.{ℕ, zero, suc, _+_, _*_, _<_, _≤_}
 use native.Mathlib.Omega.{arith}
-use lib.ListN.{length, getD}
+use lib.ListN.{length, getD, take}
+use lib.Seq.{take-all}
 use borrow.Author.Tests.{eq-eqb, ne-eqb}
-use Rattle.sets.proofs.Laws.Bools.{eq-or-ne}
+use Rattle.sets.proofs.Laws.Bools.{eq-or-ne, lt-or-le}
 use Rattle.tree.specs.Tree.{flat}
 use Rattle.state.specs.declared.State.{State}
-use Rattle.files.specs.Files.{eventsIn}
+use Rattle.files.specs.Files.{longest, eventsIn}
 use Rattle.schedule.specs.Runs.{run}
+use Rattle.schedule.proofs.Laws.Opening.{long-refused, long-alike}
 use Rattle.schedule.proofs.Laws.Slices.{Agree, same-run}
 use Rattle.lines.specs.Lines.{eventLine, refusedLine}
-use Rattle.listing.specs.Listings.{lines, listing, reportOf, report}
+use Rattle.listing.specs.Listings.{fileRoom, answersRoom, lines, listing, reportOf, report}
 
 lines-same : (f g : ℕ → List ℕ) (k : ℕ) → ((i : ℕ) → i < k → f i ≡ g i) → lines f k ≡ lines g k
 unfolding lines
@@ -36,18 +39,32 @@ listing-same events a b s t e h =
     let l : lines (eventLine a) events ≡ lines (eventLine b) events = lines-same (eventLine a) (eventLine b) events (λ i m. line-same a b i (λ j k. h j (omega arith))) in
     rw (e, l)
 
--- What the program prints does not depend on what the slice held.
-pub report-of-the-file : (file a b : List ℕ) → length a ≡ length b → report flat file a ≡ report flat file b
+-- What is reported does not depend on what the slice held, or on its length where it has room for the most events.
+pub report-of-the-file : (file a b : List ℕ) → answersRoom ≤ length a → answersRoom ≤ length b → report flat file a ≡ report flat file b
 unfolding report reportOf
-report-of-the-file file a b e = ⊎-elim accepted refused (eq-or-ne (run flat file a .answer) 0)
+report-of-the-file file a b ra rb = ⊎-elim accepted refused (eq-or-ne (run flat file a .answer) 0)
   where
     accepted : run flat file a .answer ≡ 0 → report flat file a ≡ report flat file b
     accepted z =
-        let s = same-run file a b e in
+        let s = same-run file a b ra rb in
         rw (eq-eqb (run flat file a .answer) 0 z, eq-eqb (run flat file b .answer) 0 (sym (s .answer-same) ∙ z))
         (listing-same (eventsIn file) (run flat file a .answers) (run flat file b .answers) (run flat file a .state) (run flat file b .state) (s .state-same) (s .answers-same z))
 
     refused : (run flat file a .answer ≡ 0 → ⊥) → report flat file a ≡ report flat file b
     refused d =
-        let s = same-run file a b e in
+        let s = same-run file a b ra rb in
         rw (ne-eqb (run flat file a .answer) 0 d, ne-eqb (run flat file b .answer) 0 (λ z. d (s .answer-same ∙ z))) (ap refusedLine (s .answer-same))
+
+refused-same : (file start out : List ℕ) → (run flat file out .answer ≡ 0 → ⊥) → run flat start out ≡ run flat file out → report flat start out ≡ report flat file out
+unfolding report reportOf
+refused-same file start out d e = rw (e, ne-eqb (run flat file out .answer) 0 d)
+
+-- What is reported of a file is what is reported of its first 36,871 bytes.
+pub report-of-the-start : (file out : List ℕ) → report flat (take fileRoom file) out ≡ report flat file out
+report-of-the-start file out = ⊎-elim long short (lt-or-le longest (length file))
+  where
+    long : longest < length file → report flat (take fileRoom file) out ≡ report flat file out
+    long l = refused-same file (take fileRoom file) out (long-refused file out l) (long-alike file out fileRoom (omega arith) (omega arith))
+
+    short : length file ≤ longest → report flat (take fileRoom file) out ≡ report flat file out
+    short l = ap (λ (f : List ℕ). report flat f out) (take-all fileRoom file (omega arith))

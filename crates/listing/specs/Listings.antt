@@ -1,12 +1,12 @@
 -- The listing of a run: its lines in order; or the one line of a refused run.
-use Prim.Native.Nat.{ℕ, zero, suc, _+_}
+use Prim.Native.Nat.{ℕ, zero, suc, _+_, _*_}
 use mathlib.Core.Bool.{cond}
 use mathlib.Core.List.{List, [], _++_}
 use lib.Dec.{eqb}
 use lib.ListN.{getD}
 use Rattle.state.specs.declared.State.{State}
 use Rattle.state.specs.States.{zeroRank}
-use Rattle.files.specs.Files.{eventsIn}
+use Rattle.files.specs.Files.{mostEvents, longest, eventsIn}
 use Rattle.schedule.specs.Runs.{Run, run}
 use Rattle.lines.specs.Lines.{firstLine, eventLine, rankLine, lastLine, refusedLine}
 
@@ -30,3 +30,15 @@ reportOf file r = cond (eqb (r .answer) 0) (listing (eventsIn file) (r .answers)
 
 unfoldable pub report : (ℕ → ℕ) → List ℕ → List ℕ → List ℕ
 report anc file out = reportOf file (run anc file out)
+
+-- What the caller of a report lends. To read the file: one byte more than the longest has, so that a longer one is seen.
+abbrev pub fileRoom : ℕ
+fileRoom = longest + 1
+
+-- To run it: three numbers for each event.
+abbrev pub answersRoom : ℕ
+answersRoom = 3 * mostEvents
+
+-- To list it: 50 bytes, 44 an event and 46 a rank.
+abbrev pub textRoom : ℕ
+textRoom = 50 + 44 * mostEvents + 46 * 64

@@ -8,13 +8,13 @@ use rank::Rank;
 use state::State;
 ghost use Prim.Native.Nat.{_+_, _*_, _≤_};
 ghost use mathlib.Core.Path.{_≡_};
-ghost use lib.ListN.{getD, length};
+ghost use lib.ListN.{getD, length, take};
 ghost use Rattle.tree.specs.Tree.{flat};
 ghost use Rattle.state.specs.States.{zeroRank};
 ghost use Rattle.text.specs.Text.{Wrote};
 ghost use Rattle.schedule.specs.Runs.{run};
 ghost use Rattle.lines.specs.Lines.{eventLine, rankLine};
-ghost use Rattle.listing.specs.Listings.{lines, listing, report};
+ghost use Rattle.listing.specs.Listings.{answersRoom, fileRoom, lines, listing, report, textRoom};
 
 // The event lines, ascending.
 fn put_events(text: &mut [u8], at: usize, answers: &[u32], events: usize) -> usize
@@ -64,16 +64,20 @@ pub fn list(text: &mut [u8], events: u32, answers: &[u32], s: State) -> usize
     put_last(text, third, g.count)
 }
 
-// What the schedule program prints: runs a file, and writes its listing or its refusal.
-pub fn report(file: &[u8], answers: &mut [u32], text: &mut [u8]) -> usize
-    requires { ⌜ 183218 ≤ length (now text) ⌝ }
-    ensures { λ r. ⌜ Wrote (now (text .entry)) 0 (report flat (now (file .entry)) (now (answers .entry))) (now (text .exit)) r ⌝ }
-    ensures { λ r. ⌜ now (answers .exit) ≡ run flat (now (file .entry)) (now (answers .entry)) .answers ⌝ }
+// What the schedule program prints: runs the file that was read, the first `got` bytes of a buffer with room for one byte more than the longest,
+// and writes its listing or its refusal.
+pub fn report(file: &[u8], got: usize, answers: &mut [u32], text: &mut [u8]) -> usize
+    requires { ⌜ fileRoom ≤ length (now file) ⌝ }
+    requires { ⌜ got ≤ length (now file) ⌝ }
+    requires { ⌜ answersRoom ≤ length (now answers) ⌝ }
+    requires { ⌜ textRoom ≤ length (now text) ⌝ }
+    ensures { λ r. ⌜ Wrote (now (text .entry)) 0 (report flat (take got (now (file .entry))) (now (answers .entry))) (now (text .exit)) r ⌝ }
+    ensures { λ r. ⌜ now (answers .exit) ≡ run flat (take got (now (file .entry))) (now (answers .entry)) .answers ⌝ }
 {
-    let ran = schedule::run(file, answers);
+    let ran = schedule::run(&file[..got], answers);
     if ran.answer != 0 {
         return put_refused(text, ran.answer);
     }
     let state = ran.state;
-    list(text, files::events_in(file), answers, state)
+    list(text, files::events_in(&file[..got]), answers, state)
 }

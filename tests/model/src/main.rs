@@ -3,7 +3,8 @@
 //!     model listing < FILE             the listing that FILE must have
 //!     model write < EVENTS > FILE      the schedule that a text describes: `n SIZE`, then `KIND A B` lines, `#` comments
 //!     model schedule SEED > FILE       a random schedule
-//!     model data SEED COUNT DIR        COUNT of them as DIR/000.agr and on, few of them long, their listings on standard output
+//!     model data SEED COUNT DIR        COUNT of them as DIR/000.agr and on, few of them long, then those at the limits; their listings on
+//!                                      standard output
 //!     model compare PROGRAM SEED COUNT the program's listings beside the model's
 
 mod compare;
@@ -13,7 +14,7 @@ mod random;
 mod rank;
 mod tree;
 
-use random::{schedule, Random};
+use random::{limits, schedule, Random};
 use std::io::{Read, Write};
 use std::process::exit;
 
@@ -21,12 +22,13 @@ fn number(text: &str) -> u64 {
     text.parse().unwrap_or_else(|_| panic!("{text}: not a number"))
 }
 
-/// Long files teach little more than short ones: one in six may be.
+/// Long files teach little more than short ones: one in six may be. After them the files at the limits.
 fn data(seed: u64, count: u64, dir: &str) {
     let seeds = seed..;
     let files = seeds.map(|seed| (seed, schedule(&mut Random::new(seed))));
-    let kept = files.filter(|(seed, bytes)| bytes.len() < 1500 || seed % 6 == 0);
-    for (k, (_, bytes)) in kept.take(count as usize).enumerate() {
+    let kept = files.filter(|(seed, bytes)| bytes.len() < 1500 || seed % 6 == 0).map(|(_, bytes)| bytes);
+    let limits = limits(&mut Random::new(seed));
+    for (k, bytes) in kept.take(count as usize).chain(limits).enumerate() {
         std::fs::write(format!("{dir}/{k:03}.agr"), &bytes).expect("a file written");
         print!("{}", file::listing(&bytes));
     }

@@ -168,6 +168,14 @@ fn longest(random: &mut Random, n: u32, manner: &Manner) -> Vec<Event> {
     events
 }
 
+/// Files at the limits: no bytes, six bytes, the most events, and one byte more.
+pub fn limits(random: &mut Random) -> [Vec<u8>; 4] {
+    let stormy = Manner { crash: 20, notice: 4, reorder: true };
+    let full = write(64, &longest(random, 64, &stormy));
+    let over = [&full[..], &[0]].concat();
+    [Vec::new(), write(64, &[]), full, over]
+}
+
 /// One schedule file.
 pub fn schedule(random: &mut Random) -> Vec<u8> {
     let n = random.size();

@@ -1,14 +1,14 @@
--- `main` is safe and ends: k rises to 200. Assumes nothing.
+-- `main` is safe and ends: k rises to 204. Assumes nothing.
 use Prim.Native.Nat.{_-_, _≤_}
 use borrow.Author.Needs.{needs}
 use Rattle.agr_cases.proofs.main.Statement.{statement}
 use Rattle.agr_cases.proofs.main.Tie as tie
 
 abbrev Inv-loop : tie.InvT-loop
-Inv-loop k₀ k = k ≤ 200
+Inv-loop k₀ k = k ≤ 204
 
 abbrev μ-loop : tie.MeasureT-loop
-μ-loop k₀ k = 200 - k
+μ-loop k₀ k = 204 - k
 
 loop-holds : tie.Need-loop-holds Inv-loop μ-loop
 loop-holds c = search needs

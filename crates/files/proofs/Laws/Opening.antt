@@ -3,19 +3,20 @@ use mathlib.Core.Path.{_≡_, refl, sym, ap, subst, _∙_}
 use mathlib.Core.Bool.{Bool, true, false}
 use mathlib.Core.List.{List, [], _∷_}
 use mathlib.Core.Logic.{_⊎_, inl, inr}
-use Prim.Native.Nat.{ℕ, _+_, _*_, _-_, _/_, _%_, _≤_}
+use Prim.Native.Nat.{ℕ, _+_, _*_, _-_, _/_, _%_, _≤_, _<_}
 use native.Mathlib.Omega.{arith}
 use lib.Dec.{eqb, ltb}
-use lib.ListN.{length}
+use lib.ListN.{length, getD, take}
+use lib.Seq.{length-take-le, getD-take}
 use types.Run.{OneOf, miss}
 use denote.Enum.Declared as Declared
-use borrow.Author.Tests.{eqb-true, ltb-false, not-false}
+use borrow.Author.Tests.{eqb-true, ltb-false, lt-ltb, le-ltb, not-false}
 use Rattle.sets.proofs.Laws.Bools.{passes-or-fails, clash}
 use Rattle.tree.specs.Calls.{wrongSize}
 use Rattle.files.specs.declared.Header.{Header}
 use Rattle.files.specs.declared.Header.the-variants.{Good, NoHeader, WrongMark, WrongVersion, WrongSize, TooLong, Broken}
 use Rattle.files.proofs.Header as Shape
-use Rattle.files.specs.Files.{byteAt, wrongMark, wrongVersion, broken, eventsIn, header, numberOf}
+use Rattle.files.specs.Files.{longest, byteAt, shortAt, wrongMark, wrongVersion, broken, eventsIn, header, numberOf}
 
 -- What a good header promises.
 pub record Opened (file : List ℕ) (n events : ℕ) : Type 0 where
@@ -102,6 +103,33 @@ bad-number WrongVersion g e = omega arith
 bad-number WrongSize g e = omega arith
 bad-number TooLong g e = omega arith
 bad-number Broken g e = omega arith
+
+-- ---- a file that is too long
+
+-- Its header is a bad one,
+pub long-bad : (file : List ℕ) → longest < length file → goodness (header file) ≡ false
+long-bad file l = from (header file) refl
+  where
+    from : (h : Header) → header file ≡ h → goodness h ≡ false
+    from (Good n t) e = let s : length file ≤ longest = good-opened file n t (sym e) .short in absurd (omega arith)
+    from NoHeader e = refl
+    from WrongMark e = refl
+    from WrongVersion e = refl
+    from WrongSize e = refl
+    from TooLong e = refl
+    from Broken e = refl
+
+-- a matter of its first six bytes; so one byte more than the longest file has shows it.
+long-same : (f g : List ℕ) → longest < length f → longest < length g → ((i : ℕ) → i < 6 → getD f i 0 ≡ getD g i 0) → header f ≡ header g
+unfolding header wrongMark wrongVersion shortAt byteAt
+long-same f g l m b =
+    rw (b 0 (omega arith), b 1 (omega arith), b 2 (omega arith), b 3 (omega arith), b 4 (omega arith), b 5 (omega arith),
+    le-ltb (length f) 6 (omega arith), le-ltb (length g) 6 (omega arith), lt-ltb longest (length f) l, lt-ltb longest (length g) m)
+
+pub long-start : (file : List ℕ) (n : ℕ) → longest < n → n ≤ length file → header (take n file) ≡ header file
+long-start file n l m =
+    let e : length (take n file) ≡ n = length-take-le n file m in
+    long-same (take n file) file (omega arith) (omega arith) (λ i k. getD-take n file i 0 (omega arith))
 
 -- What the code knows where a header is not good: its place among the cases.
 abbrev pub badTags : List ℕ

@@ -17,7 +17,7 @@ use Rattle.files.specs.Files.{eventsIn}
 use Rattle.schedule.specs.Runs.{run}
 use Rattle.schedule.proofs.Laws.Ending.{run-ended}
 use Rattle.lines.specs.Lines.{refusedLine}
-use Rattle.listing.specs.Listings.{listing, reportOf, report}
+use Rattle.listing.specs.Listings.{textRoom, listing, reportOf, report}
 use Rattle.lines.proofs.Laws.Lines.{length-refused}
 use Rattle.listing.proofs.Laws.Lines.{length-listing}
 
@@ -33,15 +33,15 @@ unfolding report reportOf
 report-listed file out a s answers events text t next ea es ev z ee w = rw (sym ea ∙ z) (subst (λ (l : List ℕ). Wrote text 0 l t next) (rw (ee, ev, es)) w)
 
 -- A report fits the buffer that it asks for.
-report-short : (file out : List ℕ) → length (report flat file out) ≤ 183218
+report-short : (file out : List ℕ) → length (report flat file out) ≤ textRoom
 unfolding report reportOf
 report-short file out = go (eq-or-ne (run flat file out .answer) 0)
   where
-    go : (run flat file out .answer ≡ 0) ⊎ (run flat file out .answer ≡ 0 → ⊥) → length (cond (eqb (run flat file out .answer) 0) (listing (eventsIn file) (run flat file out .answers) (run flat file out .state)) (refusedLine (run flat file out .answer))) ≤ 183218
+    go : (run flat file out .answer ≡ 0) ⊎ (run flat file out .answer ≡ 0 → ⊥) → length (cond (eqb (run flat file out .answer) 0) (listing (eventsIn file) (run flat file out .answers) (run flat file out .state)) (refusedLine (run flat file out .answer))) ≤ textRoom
     go (inl z) =
         let e = run-ended file out (run flat file out .answer) (run flat file out .state) (run flat file out .answers) refl refl refl z in
-        rw (eq-eqb (run flat file out .answer) 0 z) (let l : length (listing (eventsIn file) (run flat file out .answers) (run flat file out .state)) ≤ 183218 = omega (arith, e .few, e .size, length-listing (eventsIn file) (run flat file out .answers) (run flat file out .state)) in l)
-    go (inr d) = rw (ne-eqb (run flat file out .answer) 0 d) (let l : length (refusedLine (run flat file out .answer)) ≤ 183218 = omega (arith, length-refused (run flat file out .answer)) in l)
+        rw (eq-eqb (run flat file out .answer) 0 z) (let l : length (listing (eventsIn file) (run flat file out .answers) (run flat file out .state)) ≤ textRoom = omega (arith, e .few, e .size, length-listing (eventsIn file) (run flat file out .answers) (run flat file out .state)) in l)
+    go (inr d) = rw (ne-eqb (run flat file out .answer) 0 d) (let l : length (refusedLine (run flat file out .answer)) ≤ textRoom = omega (arith, length-refused (run flat file out .answer)) in l)
 
-pub report-fits : (file out text t : List ℕ) (next : ℕ) → Wrote text 0 (report flat file out) t next → 183218 ≤ length text → next ≤ length t
+pub report-fits : (file out text t : List ℕ) (next : ℕ) → Wrote text 0 (report flat file out) t next → textRoom ≤ length text → next ≤ length t
 report-fits file out text t next w r = omega (arith, report-short file out, w .next-is, wrote-kept w)

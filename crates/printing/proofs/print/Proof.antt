@@ -1,28 +1,16 @@
--- `print` is safe: a report fits the buffer that it is lent. Assumes nothing.
+-- `print` is safe: what it lends has the room that a report asks for, and a report fits the buffer that it is lent. Assumes nothing.
 use mathlib.Core.Path.{sym}
 use lib.Seq.{length-take-le}
 use borrow.Author.Needs.{needs}
 use Rattle.listing.proofs.Laws.Reporting.{report-fits}
-use Rattle.agr_cases.proofs.print.Statement.{statement}
-use Rattle.agr_cases.proofs.print.Tie as tie
-
-open-read-requires : tie.Need-open-read-requires
-open-read-requires c κs = search needs
-
-fail-requires : tie.Need-fail-requires
-fail-requires c κs = search needs
-
-returns : tie.Need-returns
-returns c = search needs
+use Rattle.printing.proofs.print.Statement.{statement}
+use Rattle.printing.proofs.print.Tie as tie
 
 slice-aggregate-read-full : tie.Need-slice-aggregate-read-full
 slice-aggregate-read-full c = search needs
 
 read-full-requires : tie.Need-read-full-requires
 read-full-requires c κs = search needs
-
-array-share-prefix-file : tie.Need-array-share-prefix-file
-array-share-prefix-file c = search needs
 
 slice-aggregate-report : tie.Need-slice-aggregate-report
 slice-aggregate-report c = search needs
@@ -45,22 +33,15 @@ slice-aggregate-write-all c = sym (length-take-le _ _ (report-fits _ _ _ _ _ (c 
 write-all-requires : tie.Need-write-all-requires
 write-all-requires c κs = search needs
 
-close-requires : tie.Need-close-requires
-close-requires c κs = search needs
-
-returns-2 : tie.Need-returns-2
-returns-2 c = search needs
+returns : tie.Need-returns
+returns c = search needs
 
 pub print-spec : {M : Type 1} → statement M
 print-spec =
     tie.close
     (tie.spec
-    open-read-requires
-    fail-requires
-    returns
     slice-aggregate-read-full
     read-full-requires
-    array-share-prefix-file
     slice-aggregate-report
     slice-aggregate-report-2
     slice-aggregate-report-3
@@ -68,5 +49,4 @@ print-spec =
     array-share-prefix-text
     slice-aggregate-write-all
     write-all-requires
-    close-requires
-    returns-2)
+    returns)
