@@ -1,19 +1,29 @@
-//! A program's listings beside the model's, on fresh random schedules; a difference is made as small as can be.
+//! The programs beside the model: listings of fresh random schedules, a difference made as small as can be; and marks and climbs on fresh
+//! random views.
 
+use crate::cases::{answers, lines};
 use crate::file::listing;
 use crate::random::{schedule, Random};
+use crate::random_views::cases;
 use std::io::Write;
 use std::process::{Command, Stdio};
+use std::thread;
 
-fn answer(program: &str, file: &[u8]) -> String {
-    let mut child = Command::new(program)
+/// What a program, given with its words if it has any, prints on an input.
+fn answer(program: &str, input: &[u8]) -> String {
+    let words: Vec<&str> = program.split_whitespace().collect();
+    let mut child = Command::new(words[0])
+        .args(&words[1..])
         .stdin(Stdio::piped())
         .stdout(Stdio::piped())
         .spawn()
         .unwrap_or_else(|why| panic!("{program}: {why}"));
-    // A program that reads no more than it needs closes its end early; its answer still counts.
-    let _ = child.stdin.take().expect("a pipe").write_all(file);
-    let output = child.wait_with_output().expect("its output");
+    let mut pipe = child.stdin.take().expect("a pipe");
+    let output = thread::scope(|scope| {
+        // A program that reads no more than it needs closes its end early; its answer still counts.
+        scope.spawn(move || { let _ = pipe.write_all(input); });
+        child.wait_with_output().expect("its output")
+    });
     String::from_utf8_lossy(&output.stdout).into_owned()
 }
 
@@ -54,5 +64,30 @@ pub fn compare(program: &str, seed: u64, count: u64) -> bool {
         }
     }
     println!("{count} schedules, no difference");
+    true
+}
+
+/// The place of the first line that differs.
+fn first_difference(ours: &str, theirs: &str) -> usize {
+    ours.lines().zip(theirs.lines()).take_while(|(o, t)| o == t).count()
+}
+
+/// Compares `count` marks and climbs from the seed on, many in one run of the program; true when there was no difference.
+pub fn compare_views(program: &str, seed: u64, count: u64) -> bool {
+    let batch = 2000;
+    for from in (0..count).step_by(batch) {
+        let cases = cases(seed + from, (count - from).min(batch as u64));
+        let (text, ours) = (lines(&cases), answers(&cases));
+        let theirs = answer(program, text.as_bytes());
+        if ours != theirs {
+            let at = first_difference(&ours, &theirs);
+            let line = |text: &str| text.lines().nth(at).unwrap_or("nothing").to_string();
+            println!("seed {}: {}", seed + from + at as u64, line(&text));
+            println!("the model:   {}\nthe program: {}", line(&ours), line(&theirs));
+            println!("{} cases alike, then a difference", from + at as u64);
+            return false;
+        }
+    }
+    println!("{count} cases, no difference");
     true
 }

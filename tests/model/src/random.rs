@@ -12,26 +12,26 @@ impl Random {
         Random(seed)
     }
 
-    fn next(&mut self) -> u64 {
+    pub fn next(&mut self) -> u64 {
         self.0 = self.0.wrapping_add(0x9e37_79b9_7f4a_7c15);
         let x = (self.0 ^ (self.0 >> 30)).wrapping_mul(0xbf58_476d_1ce4_e5b9);
         let x = (x ^ (x >> 27)).wrapping_mul(0x94d0_49bb_1331_11eb);
         x ^ (x >> 31)
     }
 
-    fn below(&mut self, bound: u32) -> u32 {
+    pub fn below(&mut self, bound: u32) -> u32 {
         (self.next() % bound as u64) as u32
     }
 
-    fn one_in(&mut self, odds: u32) -> bool {
+    pub fn one_in(&mut self, odds: u32) -> bool {
         self.below(odds) == 0
     }
 
-    fn pick<T: Copy>(&mut self, from: &[T]) -> Option<T> {
+    pub fn pick<T: Copy>(&mut self, from: &[T]) -> Option<T> {
         if from.is_empty() { None } else { Some(from[self.below(from.len() as u32) as usize]) }
     }
 
-    fn size(&mut self) -> u32 {
+    pub fn size(&mut self) -> u32 {
         match self.below(4) {
             0 => 1 + self.below(4),
             1 => 1 + self.below(16),

@@ -1,0 +1,101 @@
+//! Calls of mark and climb as a text, a case a line, and the lines that must answer them. The program of crates/tree_cases reads the one
+//! and prints the other:
+//!
+//!     climb N MARKS RANK ALLOWANCE     climb NUMBER RANK LINKS
+//!     mark N MARKS RANK T0 .. T63      mark NUMBER MARKS MOVED T0 .. T63
+
+use crate::tree::Set;
+use crate::views::{climb, mark, Table};
+
+#[derive(Clone, Copy, PartialEq, Debug)]
+pub enum Case {
+    Climb { n: u32, marks: u64, p: u32, allowance: u32 },
+    Mark { n: u32, marks: u64, q: u32, table: Table },
+}
+
+pub fn set(word: u64) -> Set {
+    (0..64).filter(|r| word >> r & 1 == 1).collect()
+}
+
+pub fn word(set: &Set) -> u64 {
+    set.iter().map(|r| 1 << r).sum()
+}
+
+fn spaced(table: &Table) -> String {
+    table.map(|entry| entry.to_string()).join(" ")
+}
+
+impl Case {
+    pub fn line(&self) -> String {
+        match self {
+            Case::Climb { n, marks, p, allowance } => format!("climb {n} {marks} {p} {allowance}\n"),
+            Case::Mark { n, marks, q, table } => format!("mark {n} {marks} {q} {}\n", spaced(table)),
+        }
+    }
+
+    /// The line that must answer the case.
+    pub fn answer(&self) -> String {
+        match self {
+            Case::Climb { n, marks, p, allowance } => {
+                let done = climb(*n, &set(*marks), *p, *allowance);
+                format!("climb {} {} {}\n", done.number, done.rank, done.links)
+            }
+            Case::Mark { n, marks, q, table } => {
+                let done = mark(*n, &set(*marks), table, *q);
+                format!("mark {} {} {} {}\n", done.number, word(&done.marks), done.moved, spaced(&done.table))
+            }
+        }
+    }
+
+    fn read(line: &str) -> Option<Case> {
+        let words: Vec<&str> = line.split(' ').collect();
+        let small = |k: usize| words[k].parse::<u32>().ok();
+        let marks = |k: usize| words[k].parse::<u64>().ok();
+        match words[0] {
+            "climb" if words.len() == 5 => Some(Case::Climb { n: small(1)?, marks: marks(2)?, p: small(3)?, allowance: small(4)? }),
+            "mark" if words.len() == 68 => {
+                let entries: Option<Vec<u8>> = words[4..].iter().map(|w| w.parse().ok()).collect();
+                Some(Case::Mark { n: small(1)?, marks: marks(2)?, q: small(3)?, table: entries?.try_into().ok()? })
+            }
+            _ => None,
+        }
+    }
+}
+
+pub fn read(text: &str) -> Vec<Case> {
+    text.lines().map(|line| Case::read(line).unwrap_or_else(|| panic!("{line}: not a case"))).collect()
+}
+
+pub fn lines(cases: &[Case]) -> String {
+    cases.iter().map(Case::line).collect()
+}
+
+pub fn answers(cases: &[Case]) -> String {
+    cases.iter().map(Case::answer).collect()
+}
+
+#[cfg(test)]
+mod tests {
+    use super::*;
+
+    #[test]
+    fn words_and_sets() {
+        assert_eq!(set(0b1001 | 1 << 63), Set::from([0, 3, 63]));
+        assert_eq!(word(&set(u64::MAX)), u64::MAX);
+    }
+
+    #[test]
+    fn example_7() {
+        let text = "climb 64 0 63 6\nclimb 64 0 63 5\n";
+        assert_eq!(lines(&read(text)), text);
+        assert_eq!(answers(&read(text)), "climb 0 0 6\nclimb 12 1 5\n");
+    }
+
+    #[test]
+    fn example_2() {
+        let rest = " 255".repeat(56);
+        let text = format!("mark 8 0 1 255 0 1 1 2 2 3 3{rest}\n");
+        assert_eq!(lines(&read(&text)), text);
+        assert_eq!(answers(&read(&text)), format!("mark 0 2 2 255 0 0 0 2 2 3 3{rest}\n"));
+    }
+}
