@@ -151,3 +151,79 @@ fn case(seed: u64) -> Case {
 pub fn cases(seed: u64, count: u64) -> Vec<Case> {
     (seed..seed + count).map(case).collect()
 }
+
+#[cfg(test)]
+mod tests {
+    use super::*;
+    use crate::cases::{answers, read};
+    use crate::views::mark;
+    use std::collections::BTreeSet;
+
+    fn gate(file: &str) -> String {
+        let path = format!("{}/../../crates/tree_cases/{file}", env!("CARGO_MANIFEST_DIR"));
+        std::fs::read_to_string(path).expect("a file of the gate's cases")
+    }
+
+    fn climb_shows(n: u32, marks: u64, p: u32, allowance: u32) -> &'static str {
+        let done = climb(n, &set(marks), p, allowance);
+        match done.number {
+            0 if marks & !below(n) != 0 => "climb, marks at n and above",
+            0 if done.links == 6 => "climb, six links",
+            0 if done.links == 0 => "climb, from the root",
+            0 => "climb",
+            1 if p >= n => "climb 1, no rank either",
+            1 => "climb 1",
+            4 if p < 64 && marks >> p & 1 == 1 => "climb 4, marked all the same",
+            4 => "climb 4",
+            6 if allowance == 0 => "climb 6, no allowance either",
+            6 => "climb 6",
+            12 if allowance == 0 => "climb 12, no link allowed",
+            12 => "climb 12",
+            _ => panic!("no answer of a climb"),
+        }
+    }
+
+    fn mark_shows(n: u32, marks: u64, q: u32, table: Table) -> &'static str {
+        let done = mark(n, &set(marks), &table, q);
+        let (outside, wanted) = (marks & !below(n) != 0, fresh(n, &set(marks)));
+        match done.number {
+            0 if marks >> q & 1 == 1 => "mark, again",
+            0 if done.marks.len() as u32 == n => "mark, the last unmarked rank",
+            0 if done.moved == 0 => "mark, moves none",
+            0 if done.moved > 6 => "mark, moves many",
+            0 => "mark",
+            1 => "mark 1",
+            2 if q >= n => "mark 2, no rank either",
+            2 if table == wanted => "mark 2, by marks at n and above",
+            2 if outside => "mark 2, by marks and table",
+            2 if table[..63] == wanted[..63] => "mark 2, by the last entry",
+            2 if table[..n as usize] == wanted[..n as usize] => "mark 2, by entries at n and above",
+            2 => "mark 2, by entries below n",
+            4 => "mark 4",
+            _ => panic!("no answer of a mark"),
+        }
+    }
+
+    fn shows(case: Case) -> &'static str {
+        match case {
+            Case::Climb { n, marks, p, allowance } => climb_shows(n, marks, p, allowance),
+            Case::Mark { n, marks, q, table } => mark_shows(n, marks, q, table),
+        }
+    }
+
+    /// Among the cases that the gate runs is each answer of each call, for each of its reasons.
+    #[test]
+    fn every_answer_occurs() {
+        let cases = read(&gate("stdin"));
+        assert_eq!(answers(&cases), gate("stdout"));
+        let shown: BTreeSet<&str> = cases.into_iter().map(shows).collect();
+        let wanted = [
+            "climb", "climb, from the root", "climb, marks at n and above", "climb, six links", "climb 1", "climb 1, no rank either",
+            "climb 4", "climb 4, marked all the same", "climb 6", "climb 6, no allowance either", "climb 12", "climb 12, no link allowed",
+            "mark", "mark, again", "mark, moves many", "mark, moves none", "mark, the last unmarked rank", "mark 1",
+            "mark 2, by entries at n and above", "mark 2, by entries below n", "mark 2, by marks and table",
+            "mark 2, by marks at n and above", "mark 2, by the last entry", "mark 2, no rank either", "mark 4",
+        ];
+        assert_eq!(shown, BTreeSet::from(wanted));
+    }
+}
