@@ -32,7 +32,8 @@ use Rattle.group.specs.Events.{posted, applied, refused, carried, subjectOf, pl
 use Rattle.group.specs.Reaching.{Reaches, begun, next}
 use Rattle.files.specs.Files.{byteAt, shortAt, numberAt, eventAt, eventsIn, wrongMark, wrongVersion, broken, header, numberOf}
 use Rattle.schedule.specs.Runs.{written, stepAt, played, refusedRun, acceptedRun, opened, run}
-use Rattle.schedule.specs.Samples.{then, file, three}
+use Rattle.files.specs.Cases.{file}
+use Rattle.schedule.specs.Samples.{then, three}
 use Rattle.schedule.proofs.Reaching.{run-reaches}
 use Rattle.agreement.specs.Progress.{Lives, Quiet, AllEntered, AllDeathsKnown, AllDecided}
 use Rattle.agreement.specs.Agreement.{isEntry, hasEntered, wordOf}

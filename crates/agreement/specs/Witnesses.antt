@@ -14,7 +14,8 @@ use Rattle.state.specs.States.{rankAt}
 use Rattle.state.specs.Starting.{started}
 use Rattle.group.specs.Events.{event}
 use Rattle.schedule.specs.Runs.{run}
-use Rattle.schedule.specs.Samples.{then, file, three}
+use Rattle.files.specs.Cases.{file}
+use Rattle.schedule.specs.Samples.{then, three}
 use Rattle.agreement.specs.Agreement.{Decides}
 
 -- ---- schedules

@@ -2,8 +2,8 @@
 use mathlib.Core.Path.{_≡_, refl}
 use mathlib.Core.Bool.{true}
 use Rattle.sets.specs.Sets.{has, only, union, meet, minus, add, below, setOf, count, largest, smallest, listed, every, all}
-use Rattle.tree.specs.Calls.{mended, movedBelow, mendedBelow, wrongSize, same, wrongView, markRefused, marked, told, climbing, climbed}
-use Rattle.tree.specs.Tree.{halvings, flat, parent, children, row, entry, fresh, moves, moved, upwards, path, links, reached, digits}
+use Rattle.tree.specs.Calls.{mended, movedBelow, mendedBelow, wrongSize, same}
+use Rattle.tree.specs.Tree.{halvings, flat, parent, children, row, entry, fresh, moves, moved}
 use Rattle.rank.specs.Records.{becoming, combining, concluding, owing, parentOf, childrenOf, awaiting, freshRank, hearing, viewing}
 use Rattle.rank.specs.Rules.{inPhase, saying, deciding, settled, done, settling, entering, noting, raised, takingUp, lowered, takingDown, asked, takingAsk, renewing, regathering, orphaned, inheriting, bereaved, noticing}
 use Rattle.rank.specs.Sends.{silent, reports, tells, asks, letter, letters}
@@ -14,16 +14,15 @@ use Rattle.state.specs.Starting.{firstRank, firstRow, freshState, emptyState, s
 use Rattle.order.specs.Order.{proper, clauses, rankInOrder, isWithin, memberInOrder, zeroRecord, strangerInOrder, seatInOrder, seatInOrderAt, messageInOrder, zeroPlace, placeInOrder, placeInOrderAt, inOrder}
 use Rattle.plans.specs.Plans.{subject, refusing, accepting, afterwards, fitting, delivered, acting, planned}
 use Rattle.group.specs.Events.{posted, applied, refused, carried, subjectOf, planOf, stepped, event}
-use Rattle.group.specs.Reaching.{tableBelow}
-use Rattle.text.specs.Text.{digitsOf, decimal, field, pasted}
+use Rattle.text.specs.Text.{digitsOf, decimal, field}
 use Rattle.files.specs.Files.{byteAt, shortAt, numberAt, eventAt, eventsIn, wrongMark, wrongVersion, broken, header, numberOf}
-use Rattle.schedule.specs.Reaching.{eventOf}
+use Rattle.files.specs.Cases.{file}
 use Rattle.schedule.specs.Runs.{written, stepAt, played, refusedRun, acceptedRun, opened, run}
-use Rattle.schedule.specs.Samples.{then, file, three}
+use Rattle.schedule.specs.Samples.{then, three}
 use Rattle.lines.specs.Lines.{firstLine, eventLine, living, resultField, rankLine, lastLine, refusedLine}
 use Rattle.listing.specs.Listings.{lines, rankLines, listing, reportOf, report}
-use Rattle.listing.specs.Witnesses.{threeListing, later, seen, goes, one, two, reporting, widowed, extinct, crowded, witnesses}
+use Rattle.listing.specs.Witnesses.{threeListing, later, seen, goes, one, two, reporting, widowed, extinct, crowded, refuses, leaves, witnesses}
 
 pub nothing-is-vacuous : all witnesses ≡ true
-unfolding has only union meet minus add below setOf count largest smallest listed every all mended movedBelow mendedBelow wrongSize same wrongView markRefused marked told climbing climbed halvings flat parent children row entry fresh moves moved upwards path links reached digits proper clauses rankInOrder becoming combining concluding owing parentOf childrenOf awaiting freshRank hearing viewing inPhase saying deciding settled done settling entering noting raised takingUp lowered takingDown asked takingAsk renewing regathering orphaned inheriting bereaved noticing silent reports tells asks letter letters combine subject refusing accepting afterwards fitting delivered acting planned posted joining applied refused carried subjectOf planOf stepped padded without isWithin memberInOrder zeroRecord strangerInOrder seatInOrder seatInOrderAt messageInOrder zeroPlace placeInOrder placeInOrderAt inOrder event tableBelow namesRank namesPlace wrongKind wrongRank noMessage isDead notOutside isLiving isLast bothLive lateRefusal refusal firstRank firstRow freshState emptyState started byteAt shortAt numberAt eventAt eventsIn wrongMark wrongVersion broken header numberOf digitsOf decimal field firstLine eventLine living resultField rankLine lastLine lines rankLines listing refusedLine reportOf report eventOf written stepAt played refusedRun acceptedRun opened run then file three threeListing later seen goes one two reporting widowed extinct crowded witnesses pasted
+unfolding has only union meet minus add below setOf count largest smallest listed every all mended movedBelow mendedBelow wrongSize same halvings flat parent children row entry fresh moves moved proper clauses rankInOrder becoming combining concluding owing parentOf childrenOf awaiting freshRank hearing viewing inPhase saying deciding settled done settling entering noting raised takingUp lowered takingDown asked takingAsk renewing regathering orphaned inheriting bereaved noticing silent reports tells asks letter letters combine subject refusing accepting afterwards fitting delivered acting planned posted joining applied refused carried subjectOf planOf stepped padded without isWithin memberInOrder zeroRecord strangerInOrder seatInOrder seatInOrderAt messageInOrder zeroPlace placeInOrder placeInOrderAt inOrder event namesRank namesPlace wrongKind wrongRank noMessage isDead notOutside isLiving isLast bothLive lateRefusal refusal firstRank firstRow freshState emptyState started byteAt shortAt numberAt eventAt eventsIn wrongMark wrongVersion broken header numberOf digitsOf decimal field firstLine eventLine living resultField rankLine lastLine lines rankLines listing refusedLine reportOf report written stepAt played refusedRun acceptedRun opened run then file three threeListing later seen goes one two reporting widowed extinct crowded refuses leaves witnesses
 nothing-is-vacuous = refl

@@ -1,22 +1,23 @@
--- Closed tests: no promise is empty. For each refusal number a state, an event or a file that gets it, and for each rule an accepted event
--- that uses it, as one list.
+-- Closed tests: no promise is empty. For each refusal number of an event and of a run one that gets it, and for each rule an accepted event
+-- that uses it, as one list. Marks, climbs and headers have lists of their own beside their definitions.
 use Prim.Native.Nat.{ℕ}
 use mathlib.Core.Bool.{Bool, _&&_}
 use mathlib.Core.List.{List, [], _∷_}
 use lib.Dec.{eqb}
 use lib.ListN.{replicate}
 use Rattle.sets.specs.Sets.{has}
-use Rattle.tree.specs.Tree.{flat, fresh}
-use Rattle.tree.specs.Calls.{same, marked, climbed}
+use Rattle.tree.specs.Tree.{flat}
+use Rattle.tree.specs.Calls.{same}
 use Rattle.rank.specs.declared.Rank.{Rank}
 use Rattle.net.specs.Net.{inFlight}
 use Rattle.state.specs.declared.State.{State}
 use Rattle.state.specs.States.{joined, rankAt}
-use Rattle.state.specs.Starting.{emptyState, started}
+use Rattle.state.specs.Starting.{started}
+use Rattle.group.specs.declared.Stepped.{Stepped}
 use Rattle.group.specs.Events.{event}
-use Rattle.files.specs.Files.{header, numberOf}
-use Rattle.schedule.specs.Runs.{stepAt, played, run}
-use Rattle.schedule.specs.Samples.{then, file, three}
+use Rattle.files.specs.Cases.{file}
+use Rattle.schedule.specs.Runs.{Run, stepAt, played, run}
+use Rattle.schedule.specs.Samples.{then, three}
 use Rattle.listing.specs.Listings.{report}
 
 unfoldable pub threeListing : List ℕ
@@ -99,43 +100,38 @@ crowded =
     })
     (two .tables)
 
+-- An event is refused with this number, sends nothing and moves nothing. That the state is unchanged is a theorem of every refused event.
+unfoldable pub refuses : Stepped → ℕ → Bool
+refuses r number = eqb (r .answer) number && eqb (r .sent) 0 && eqb (r .moved) 0
+
+-- A run is refused with this number, gives a group of none and leaves the slice as found.
+unfoldable pub leaves : Run → ℕ → List ℕ → Bool
+leaves r number out = eqb (r .answer) number && eqb (r .state .group .n) 0 && same (r .answers) out
+
 unfoldable pub witnesses : List Bool
 witnesses =
-    -- 1: a start, an event, a mark, a climb and a file
-    eqb (started flat 0 .answer) 1 ∷ eqb (event flat emptyState 1 0 0 .answer) 1 ∷ eqb (marked flat 65 0 [] 0 .answer) 1
-    ∷ eqb (climbed flat 0 0 0 0 .number) 1
-    ∷ eqb (numberOf (header (file 65 []))) 1
-    -- 2: an event, and a mark of a view that has marks outside the group
-    ∷ eqb (event flat extinct 1 0 0 .answer) 2
-    ∷ eqb (marked flat 2 4 (fresh flat 2 4) 0 .answer) 2
+    -- 1: a start, and an event on what it gives
+    eqb (started flat 0 .answer) 1 ∷ eqb (started flat 65 .answer) 1 ∷ refuses (event flat (started flat 65 .state) 1 0 0) 1
+    -- 2: nobody lives
+    ∷ refuses (event flat extinct 1 0 0) 2
     -- 3: no such kind; a delivery with b
-    ∷ eqb (event flat two 6 0 0 .answer) 3
-    ∷ eqb (event flat reporting 2 0 1 .answer) 3
-    -- 4: an event, a mark and a climb
-    ∷ eqb (event flat two 1 2 0 .answer) 4
-    ∷ eqb (marked flat 2 0 (fresh flat 2 0) 2 .answer) 4
-    ∷ eqb (climbed flat 2 0 2 0 .number) 4
-    -- 5
-    ∷ eqb (event flat two 2 0 0 .answer) 5
-    -- 6: an event and a climb
-    ∷ eqb (event flat widowed 1 1 0 .answer) 6
-    ∷ eqb (climbed flat 2 2 1 9 .number) 6
-    -- 7 to 12
-    ∷ eqb (event flat reporting 1 1 5 .answer) 7
-    ∷ eqb (event flat two 4 0 1 .answer) 8
-    ∷ eqb (event flat one 3 0 0 .answer) 9
-    ∷ eqb (event flat reporting 5 0 0 .answer) 10
-    ∷ eqb (event flat crowded 1 1 0 .answer) 11
-    ∷ eqb (climbed flat 64 0 63 5 .number) 12
-    -- 20 to 25
-    ∷ eqb (numberOf (header [])) 20
-    ∷ eqb (numberOf (header (65 ∷ 71 ∷ 83 ∷ 1 ∷ 0 ∷ 1 ∷ []))) 21
-    ∷ eqb (numberOf (header (65 ∷ 71 ∷ 82 ∷ 1 ∷ 1 ∷ 1 ∷ []))) 22
-    ∷ eqb (numberOf (header (file 1 (0 ∷ [])))) 23
-    ∷ eqb (numberOf (header (file 1 (replicate 36865 0)))) 24
-    ∷ eqb (run flat (file 1 (then 1 0 9 [])) [] .answer) 25
-    -- the last unmarked rank may be marked
-    ∷ eqb (marked flat 1 0 (fresh flat 1 0) 0 .answer) 0
+    ∷ refuses (event flat two 6 0 0) 3
+    ∷ refuses (event flat reporting 2 0 1) 3
+    -- 4: who enters; who is dead
+    ∷ refuses (event flat two 1 2 0) 4
+    ∷ refuses (event flat two 4 0 2) 4
+    -- 5 and 6
+    ∷ refuses (event flat two 2 0 0) 5
+    ∷ refuses (event flat widowed 1 1 0) 6
+    -- 7 to 11
+    ∷ refuses (event flat reporting 1 1 5) 7
+    ∷ refuses (event flat two 4 0 1) 8
+    ∷ refuses (event flat one 3 0 0) 9
+    ∷ refuses (event flat reporting 5 0 0) 10
+    ∷ refuses (event flat crowded 1 1 0) 11
+    -- a run: a bad header, and 25
+    ∷ leaves (run flat [] (7 ∷ [])) 20 (7 ∷ [])
+    ∷ leaves (run flat (file 1 (then 1 0 9 [])) (7 ∷ 7 ∷ [])) 25 (7 ∷ 7 ∷ [])
     -- Enter, with settle: rank 2 reports and waits.
     ∷ (goes 0 && eqb (seen 1 2 .phase) 2)
     -- UP: rank 1 has heard rank 2, and owes it.

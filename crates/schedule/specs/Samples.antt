@@ -1,18 +1,13 @@
--- Closed tests: how a schedule file is spelt out, and document 01's example.
+-- Closed tests: how events are spelt out, and document 01's example.
 use Prim.Native.Nat.{ℕ}
 use mathlib.Core.List.{List, [], _∷_}
-
--- ---- files
+use Rattle.files.specs.Cases.{file}
 
 -- An event of small numbers, in front of what follows it.
 unfoldable pub then : ℕ → ℕ → ℕ → List ℕ → List ℕ
 then kind a b rest = kind ∷ a ∷ 0 ∷ 0 ∷ 0 ∷ b ∷ 0 ∷ 0 ∷ 0 ∷ rest
 
--- A file of n ranks with these bytes after its first six.
-unfoldable pub file : ℕ → List ℕ → List ℕ
-file n rest = 65 ∷ 71 ∷ 82 ∷ 1 ∷ 0 ∷ n ∷ rest
-
--- Document 01's example, and the listing that it prints.
+-- Document 01's example.
 unfoldable pub three : List ℕ
 three =
     file 3

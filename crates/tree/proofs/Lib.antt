@@ -1,4 +1,5 @@
 pub mod Kin
 pub mod Laws
 pub mod Examples
+pub mod Cases
 pub mod Determined

@@ -3,3 +3,4 @@ pub mod Tree
 pub mod Relations
 pub mod Calls
 pub mod Examples
+pub mod Cases
