@@ -123,8 +123,18 @@ long-bad file l = from (header file) refl
 long-same : (f g : List ℕ) → longest < length f → longest < length g → ((i : ℕ) → i < 6 → getD f i 0 ≡ getD g i 0) → header f ≡ header g
 unfolding header wrongMark wrongVersion shortAt byteAt
 long-same f g l m b =
-    rw (b 0 (omega arith), b 1 (omega arith), b 2 (omega arith), b 3 (omega arith), b 4 (omega arith), b 5 (omega arith),
-    le-ltb (length f) 6 (omega arith), le-ltb (length g) 6 (omega arith), lt-ltb longest (length f) l, lt-ltb longest (length g) m)
+    rw (
+      b 0 (omega arith),
+      b 1 (omega arith),
+      b 2 (omega arith),
+      b 3 (omega arith),
+      b 4 (omega arith),
+      b 5 (omega arith),
+      le-ltb (length f) 6 (omega arith),
+      le-ltb (length g) 6 (omega arith),
+      lt-ltb longest (length f) l,
+      lt-ltb longest (length g) m,
+    )
 
 pub long-start : (file : List ℕ) (n : ℕ) → longest < n → n ≤ length file → header (take n file) ≡ header file
 long-start file n l m =
