@@ -5,7 +5,7 @@ use mathlib.Core.List.{List}
 use mathlib.Core.Logic.{⊎-elim}
 use Prim.Native.Nat.{ℕ, zero, suc, _+_, _*_, _<_, _≤_}
 use native.Mathlib.Omega.{arith}
-use lib.ListN.{length, getD, take}
+use lib.ListN.{length, take}
 use lib.Seq.{take-all}
 use borrow.Author.Tests.{eq-eqb, ne-eqb}
 use Rattle.sets.proofs.Laws.Bools.{eq-or-ne, lt-or-le}
@@ -16,6 +16,7 @@ use Rattle.schedule.specs.Runs.{run}
 use Rattle.schedule.proofs.Laws.Opening.{long-refused, long-alike}
 use Rattle.schedule.proofs.Laws.Slices.{Agree, same-run}
 use Rattle.lines.specs.Lines.{eventLine, refusedLine}
+use Rattle.lines.proofs.Laws.Lines.{event-same}
 use Rattle.listing.specs.Listings.{fileRoom, answersRoom, lines, listing, reportOf, report}
 
 lines-same : (f g : ℕ → List ℕ) (k : ℕ) → ((i : ℕ) → i < k → f i ≡ g i) → lines f k ≡ lines g k
@@ -26,12 +27,7 @@ lines-same f g (suc k) h =
     rw (e, h k (omega arith))
 
 line-same : (a b : List ℕ) (k : ℕ) → Agree a b (3 * k + 3) → eventLine a k ≡ eventLine b k
-unfolding eventLine
-line-same a b k h =
-    let x : getD a (3 * k) 0 ≡ getD b (3 * k) 0 = h (3 * k) (omega arith) in
-    let y : getD a (3 * k + 1) 0 ≡ getD b (3 * k + 1) 0 = h (3 * k + 1) (omega arith) in
-    let z : getD a (3 * k + 2) 0 ≡ getD b (3 * k + 2) 0 = h (3 * k + 2) (omega arith) in
-    rw (x, y, z)
+line-same a b k h = event-same a b k (h (3 * k) (omega arith)) (h (3 * k + 1) (omega arith)) (h (3 * k + 2) (omega arith))
 
 listing-same : (events : ℕ) (a b : List ℕ) (s t : State) → s ≡ t → Agree a b (3 * events) → listing events a s ≡ listing events b t
 unfolding listing

@@ -1,4 +1,4 @@
--- How long a line may be, and a result along its code. Assumes nothing.
+-- What a line depends on, how long it may be, and a result along its code. Assumes nothing.
 use mathlib.Core.Path.{_≡_}
 use mathlib.Core.Bool.{Bool, true, false, cond}
 use mathlib.Core.List.{List, [], _∷_, _++_}
@@ -33,6 +33,12 @@ length-event answers k =
       length-field b,
       length-field c,
     )
+
+-- a line is a matter of its event's three numbers
+pub event-same : (a b : List ℕ) (k : ℕ) → getD a (3 * k) 0 ≡ getD b (3 * k) 0 → getD a (3 * k + 1) 0 ≡ getD b (3 * k + 1) 0 → getD a (3 * k + 2) 0 ≡ getD b (3 * k + 2) 0
+    → eventLine a k ≡ eventLine b k
+unfolding eventLine
+event-same a b k x y z = rw (x, y, z)
 
 pub length-result : (phase result : ℕ) → length (resultField phase result) ≤ 11
 unfolding resultField
