@@ -1,14 +1,14 @@
 -- The promises of the group layer, each under a name that says it: what a caller of start and event sees, over the states that a group can be
 -- in. Over any ancestor sets. Assumes nothing.
-use mathlib.Core.Path.{_≡_, refl, sym, ap₂, subst, _∙_}
+use mathlib.Core.Path.{_≡_, refl, ap₂, _∙_}
 use mathlib.Core.Bool.{true, false, cond, _||_}
 use mathlib.Core.List.{_++_}
-use mathlib.Core.Logic.{⊎-elim, inr}
+use mathlib.Core.Logic.{inr}
 use Prim.Native.Nat.{ℕ, _≤_, _<_}
 use lib.Dec.{eqb}
 use lib.ListN.{length}
 use Rattle.sets.specs.Sets.{has, add}
-use Rattle.sets.proofs.Laws.Bools.{eq-or-ne}
+use Rattle.sets.proofs.Laws.Bools.{clash}
 use Rattle.tree.specs.Tree.{moved}
 use Rattle.tree.specs.Calls.{movedBelow}
 use Rattle.tree.specs.Relations.{Ancestry}
@@ -26,10 +26,9 @@ use Rattle.plans.proofs.Laws.Knowing as Knowing
 use Rattle.group.specs.Events.{refused, event}
 use Rattle.group.specs.Changes.{named, doing, sends}
 use Rattle.group.specs.Reaching.{Reaches}
-use Rattle.group.proofs.Moves.{Move, by-rank, by-loss, Entry}
 use Rattle.group.proofs.Laws.Events.{event-on-none, event-refused}
 use Rattle.group.proofs.Laws.Moving.{event-keeps-order, event-size, others-stay, word-or-ask}
-use Rattle.group.proofs.Laws.Following.{event-moves}
+use Rattle.group.proofs.Laws.Following.{each-rank}
 use Rattle.group.proofs.Laws.Reached.{reached-in-order, reached-size}
 use Rattle.group.proofs.Laws.Changing.{subject-is, record-is, row-is, dead-is, flying-is, sent-is, moved-is, named-rank, named-receiver}
 
@@ -117,18 +116,13 @@ module _ (anc : ℕ → ℕ) (n : ℕ) (s : State) (run : Reaches anc n s) (a b 
       moved-is anc s (reached-in-order anc n s run) 2 a b z
       ∙ Knowing.dropped-calm anc _ _ b _ _ _ _ (is-dropped (s .group .dead) (named s 2 a) (placeAt s a) (rankAt s (named s 2 a)) (rw to-is t)) .1
 
--- ---- request 2026-04
+-- ---- what any event leaves of a rank, accepted or not
 
--- Owed never shrinks: whatever the event, accepted or not, whom a rank owes it goes on owing.
-pub owed-never-shrinks : (anc : ℕ → ℕ) → Ancestry anc → (n : ℕ) (s : State) → Reaches anc n s → (kind a b j q : ℕ) → has (rankAt s j .owed) q ≡ true → has (rankAt (event anc s kind a b .state) j .owed) q ≡ true
-unfolding refused
-owed-never-shrinks anc tree n s run kind a b j q h = ⊎-elim (λ (z : event anc s kind a b .answer ≡ 0). went (event-moves anc tree s kind a b (reached-in-order anc n s run) z)) stayed (eq-or-ne (event anc s kind a b .answer) 0)
-  where
-    went : Move anc (s .group .n) (Entry kind a b) s (event anc s kind a b .state) → has (rankAt (event anc s kind a b .state) j .owed) q ≡ true
-    went (by-rank p k x v f g m w) =
-        ⊎-elim (λ (e : j ≡ p). subst (λ (i : ℕ). has (rankAt (event anc s kind a b .state) i .owed) q ≡ true) (sym e) (m .turn .owed-stays q (subst (λ (i : ℕ). has (rankAt s i .owed) q ≡ true) e h)))
-        (λ (d : j ≡ p → ⊥). rw (m .others j d) h) (eq-or-ne j p)
-    went (by-loss m) = rw (m .ranks-stay j) h
+module _ (anc : ℕ → ℕ) (tree : Ancestry anc) (n : ℕ) (s : State) (run : Reaches anc n s) (kind a b j : ℕ) where
+  -- A dead rank's record is frozen.
+  pub the-dead-are-frozen : has (s .group .dead) j ≡ true → rankAt (event anc s kind a b .state) j ≡ rankAt s j
+  the-dead-are-frozen d = each-rank anc tree s kind a b j (reached-in-order anc n s run) (λ r r′. r′ ≡ r) (λ r. refl) (λ k q f g l t. absurd (clash (has (s .group .dead) j) d l))
 
-    stayed : (event anc s kind a b .answer ≡ 0 → ⊥) → has (rankAt (event anc s kind a b .state) j .owed) q ≡ true
-    stayed d = rw (event-refused anc s kind a b d) h
+  -- Request 2026-04: owed never shrinks. Whom a rank owes it goes on owing.
+  pub owed-never-shrinks : (q : ℕ) → has (rankAt s j .owed) q ≡ true → has (rankAt (event anc s kind a b .state) j .owed) q ≡ true
+  owed-never-shrinks q = each-rank anc tree s kind a b j (reached-in-order anc n s run) (λ r r′. has (r .owed) q ≡ true → has (r′ .owed) q ≡ true) (λ r h. h) (λ k x f g l t. t .owed-stays q)

@@ -15,6 +15,7 @@ use Rattle.sets.proofs.Laws.Members.{has-add-more}
 use Rattle.tree.specs.Relations.{Ancestry}
 use Rattle.rank.specs.declared.Rank.{Rank}
 use Rattle.rank.specs.declared.Acted.{Acted}
+use Rattle.rank.specs.declared.Send.{Send}
 use Rattle.rank.specs.Words.{outside, up, down, ask}
 use Rattle.rank.proofs.Turn.{Says, Turn}
 use Rattle.rank.proofs.Speech.{SaysWord, Speech}
@@ -45,7 +46,7 @@ use Rattle.group.specs.Events.{posted, applied, subjectOf, planOf, stepp
 use Rattle.group.proofs.Moves.{Flies, Carries, Move, by-rank, by-loss, Entry}
 use Rattle.group.proofs.Laws.Stepping.{step-plan, step-applied, subject-receives, subject-in}
 use Rattle.group.proofs.Laws.Preserving.{ok, named, listed-there, outcome, list-long}
-use Rattle.group.proofs.Laws.Events.{event-steps-on}
+use Rattle.group.proofs.Laws.Events.{event-steps-on, refused-stays}
 use Rattle.group.proofs.Laws.Flying.{posted-was, posted-stays, posted-joins, applied-flies, carries-applied}
 
 -- the state after the plan of an event
@@ -269,6 +270,22 @@ event-moves anc tree s kind a b o z =
     let y = event-accepted anc s kind a b o z in
     subst (Move anc (s .group .n) (Entry kind a b) s) (sym (ap (λ (x : Stepped). x .state) (event-steps-on anc s kind a b o) ∙ step-applied anc s kind a b y))
     (plan-moves anc s (in-order-facts anc s o) kind a b (planOf anc s kind a b) refl (step-plan anc s kind a b y) tree)
+
+-- What any event, accepted or not, leaves of a rank's record: as it was, or the turn of a living rank.
+pub each-rank : (anc : ℕ → ℕ) → Ancestry anc → (s : State) (kind a b j : ℕ) → InOrder anc s → (P : Rank → Rank → Type 0) → ((r : Rank) → P r r)
+    → ((k q : ℕ) (f g : Send) → has (s .group .dead) j ≡ false → Turn anc (s .group .n) j k q (rankAt s j) (rankAt (event anc s kind a b .state) j) f g → P (rankAt s j) (rankAt (event anc s kind a b .state) j))
+    → P (rankAt s j) (rankAt (event anc s kind a b .state) j)
+each-rank anc tree s kind a b j o P same turned =
+    ⊎-elim (λ (z : event anc s kind a b .answer ≡ 0). went (event-moves anc tree s kind a b o z)) (λ (d : event anc s kind a b .answer ≡ 0 → ⊥). stays (ap (λ (t : State). rankAt t j) (refused-stays anc s kind a b d))) (eq-or-ne (event anc s kind a b .answer) 0)
+  where
+    stays : rankAt (event anc s kind a b .state) j ≡ rankAt s j → P (rankAt s j) (rankAt (event anc s kind a b .state) j)
+    stays e = subst (P (rankAt s j)) (sym e) (same (rankAt s j))
+
+    went : Move anc (s .group .n) (Entry kind a b) s (event anc s kind a b .state) → P (rankAt s j) (rankAt (event anc s kind a b .state) j)
+    went (by-rank p k q v f g m w) =
+        ⊎-elim (λ (e : p ≡ j). turned k q f g (subst (λ (i : ℕ). has (s .group .dead) i ≡ false) e (m .lives)) (subst (λ (i : ℕ). Turn anc (s .group .n) i k q (rankAt s i) (rankAt (event anc s kind a b .state) i) f g) e (m .turn)))
+        (λ (d : p ≡ j → ⊥). stays (m .others j (λ x. d (sym x)))) (eq-or-ne p j)
+    went (by-loss m) = stays (m .ranks-stay j)
 
 -- A rank that enters was outside.
 pub enters-from-outside : (anc : ℕ → ℕ) (s : State) (a b : ℕ) → InOrder anc s → event anc s 1 a b .answer ≡ 0 → rankAt s a .phase ≡ outside
