@@ -16,7 +16,8 @@ use Rattle.order.specs.Order.{inOrder}
 use Rattle.order.specs.Between.{Shaped, InOrder}
 use Rattle.order.proofs.Laws.Ordering.{in-order-facts}
 use Rattle.group.specs.declared.Stepped.{Stepped}
-use Rattle.group.specs.Events.{refused, carried, planOf, stepped, event}
+use Rattle.group.specs.Events.{applied, refused, carried, subjectOf, planOf, stepped, event}
+use Rattle.group.proofs.Laws.Stepping.{step-applied}
 
 -- ---- an event on a state handed in
 
@@ -44,6 +45,13 @@ unfolding event
 event-steps-on anc s kind a b o =
     let f = in-order-facts anc s o in
     rw (size-right (s .group .n) (f .size-low) (f .size-high), o .tested)
+
+-- So an accepted event is an accepted step, and carries its plan out.
+pub event-accepted : (anc : ℕ → ℕ) (s : State) (kind a b : ℕ) → InOrder anc s → event anc s kind a b .answer ≡ 0 → stepped anc s kind a b .answer ≡ 0
+event-accepted anc s kind a b o z = sym (ap (λ (x : Stepped). x .answer) (event-steps-on anc s kind a b o)) ∙ z
+
+pub event-applied : (anc : ℕ → ℕ) (s : State) (kind a b : ℕ) → InOrder anc s → event anc s kind a b .answer ≡ 0 → event anc s kind a b .state ≡ applied s a (subjectOf s kind a) (planOf anc s kind a b)
+event-applied anc s kind a b o z = ap (λ (x : Stepped). x .state) (event-steps-on anc s kind a b o) ∙ step-applied anc s kind a b (event-accepted anc s kind a b o z)
 
 -- ---- refused events
 

@@ -41,12 +41,11 @@ use Rattle.plans.proofs.Laws.Cases as Plans
 use Rattle.plans.proofs.Laws.Cases.{Dropped, delivered-by}
 use Rattle.rank.specs.Rules.{takingUp, takingDown, takingAsk}
 use Rattle.plans.proofs.Laws.Acting.{asker-below}
-use Rattle.group.specs.declared.Stepped.{Stepped}
-use Rattle.group.specs.Events.{posted, applied, subjectOf, planOf, stepped, event}
+use Rattle.group.specs.Events.{posted, applied, subjectOf, planOf, event}
 use Rattle.group.proofs.Moves.{Flies, Carries, Move, by-rank, by-loss, Entry}
-use Rattle.group.proofs.Laws.Stepping.{step-plan, step-applied, subject-receives, subject-in}
+use Rattle.group.proofs.Laws.Stepping.{step-plan, subject-receives, subject-in}
 use Rattle.group.proofs.Laws.Preserving.{ok, named, listed-there, outcome, list-long}
-use Rattle.group.proofs.Laws.Events.{event-steps-on, refused-stays}
+use Rattle.group.proofs.Laws.Events.{event-accepted, event-applied, refused-stays}
 use Rattle.group.proofs.Laws.Flying.{posted-was, posted-stays, posted-joins, applied-flies, carries-applied}
 
 -- the state after the plan of an event
@@ -260,16 +259,11 @@ module _ (anc : ℕ → ℕ) (s : State) (f : InOrderFacts anc s) (kind a b : �
 
 -- ---- the theorem
 
--- an accepted event on a state in order is an accepted step
-event-accepted : (anc : ℕ → ℕ) (s : State) (kind a b : ℕ) → InOrder anc s → event anc s kind a b .answer ≡ 0 → stepped anc s kind a b .answer ≡ 0
-event-accepted anc s kind a b o z = sym (ap (λ (x : Stepped). x .answer) (event-steps-on anc s kind a b o)) ∙ z
-
 -- An accepted event on a state in order is a move; only kind 1 enters a rank, and that one with the word of the event.
 pub event-moves : (anc : ℕ → ℕ) → Ancestry anc → (s : State) (kind a b : ℕ) → InOrder anc s → event anc s kind a b .answer ≡ 0 → Move anc (s .group .n) (Entry kind a b) s (event anc s kind a b .state)
 event-moves anc tree s kind a b o z =
-    let y = event-accepted anc s kind a b o z in
-    subst (Move anc (s .group .n) (Entry kind a b) s) (sym (ap (λ (x : Stepped). x .state) (event-steps-on anc s kind a b o) ∙ step-applied anc s kind a b y))
-    (plan-moves anc s (in-order-facts anc s o) kind a b (planOf anc s kind a b) refl (step-plan anc s kind a b y) tree)
+    subst (Move anc (s .group .n) (Entry kind a b) s) (sym (event-applied anc s kind a b o z))
+    (plan-moves anc s (in-order-facts anc s o) kind a b (planOf anc s kind a b) refl (step-plan anc s kind a b (event-accepted anc s kind a b o z)) tree)
 
 -- What any event, accepted or not, leaves of a rank's record: as it was, or the turn of a living rank.
 pub each-rank : (anc : ℕ → ℕ) → Ancestry anc → (s : State) (kind a b j : ℕ) → InOrder anc s → (P : Rank → Rank → Type 0) → ((r : Rank) → P r r)

@@ -30,7 +30,7 @@ use Rattle.group.specs.Events.{applied, subjectOf, stepped, event}
 use Rattle.group.specs.Reaching.{MovesExactly, tableBelow, AskMoves}
 use Rattle.group.proofs.Laws.Stepping.{step-taken, subject-named, subject-receives, subject-in}
 use Rattle.group.proofs.Laws.Preserving.{stepped-cases, step-changes-one, step-keeps-order}
-use Rattle.group.proofs.Laws.Events.{event-steps-on}
+use Rattle.group.proofs.Laws.Events.{event-steps-on, event-accepted}
 use Rattle.group.proofs.Laws.Knowing.{actingOn, step-acts}
 
 -- ---- before and after an event
@@ -65,9 +65,6 @@ module _ (anc : ℕ → ℕ) (s : State) (o : InOrder anc s) (kind a b : ℕ) (z
   steps : event anc s kind a b ≡ stepped anc s kind a b
   steps = event-steps-on anc s kind a b o
 
-  accepted-step : stepped anc s kind a b .answer ≡ 0
-  accepted-step = sym (ap (λ (x : Stepped). x .answer) steps) ∙ z
-
   -- the table of any rank afterwards
   after-fresh : (i : ℕ) → i < s .group .n → rowAt (event anc s kind a b .state) i ≡ fresh anc (s .group .n) (rankAt (event anc s kind a b .state) i .marks)
   after-fresh i l = table-fresh anc (event anc s kind a b .state) (s .group .n) i (event-keeps-order anc s kind a b o) (event-size anc s kind a b o) l
@@ -76,7 +73,7 @@ module _ (anc : ℕ → ℕ) (s : State) (o : InOrder anc s) (kind a b : ℕ) (z
   subject-knows : (marks : ℕ) → actingOn anc s kind a b .rank .marks ≡ marks → rankAt (event anc s kind a b .state) (subjectOf s kind a) .marks ≡ marks
   subject-knows marks e =
       ap (λ (x : Stepped). rankAt (x .state) (subjectOf s kind a) .marks) steps
-      ∙ ap (λ (r : Rank). r .marks) (step-acts anc s kind a b facts accepted-step) ∙ e
+      ∙ ap (λ (r : Rank). r .marks) (step-acts anc s kind a b facts (event-accepted anc s kind a b o z)) ∙ e
 
   -- and if it knows no more than before, its table is as it was
   subject-stays : actingOn anc s kind a b .rank .marks ≡ rankAt s (subjectOf s kind a) .marks → rowAt (event anc s kind a b .state) (subjectOf s kind a) ≡ rowAt s (subjectOf s kind a)
@@ -97,7 +94,7 @@ module _ (anc : ℕ → ℕ) (s : State) (o : InOrder anc s) (kind a b : ℕ) (z
 
   -- a message that is delivered is in order
   delivered-in-order : kind ≡ 2 → MessageInOrder (s .group .n) (s .group .dead) (placeAt s a)
-  delivered-in-order k = facts .message a (clean-place _ _ _ _ _ _ _ _ (step-taken anc s kind a b accepted-step .clean) (names-a-place kind k))
+  delivered-in-order k = facts .message a (clean-place _ _ _ _ _ _ _ _ (step-taken anc s kind a b (event-accepted anc s kind a b o z) .clean) (names-a-place kind k))
 
   -- what is delivered and no ASK is an UP or a DOWN
   pub word-or-ask : kind ≡ 2 → (placeAt s a .kind ≡ ask → ⊥) → (placeAt s a .kind ≡ up) ⊎ (placeAt s a .kind ≡ down)
@@ -118,7 +115,7 @@ module _ (anc : ℕ → ℕ) (s : State) (o : InOrder anc s) (a b : ℕ) (z : ev
   -- it is about rank a, and both ranks are of the group
   pub notice-about : (subjectOf s 4 a ≡ a) × (a < s .group .n) × (b < s .group .n)
   notice-about =
-      let c = step-taken anc s 4 a b (accepted-step anc s o 4 a b z) .clean in
+      let c = step-taken anc s 4 a b (event-accepted anc s 4 a b o z) .clean in
       let t = names-a-rank 4 (inr (inr refl)) in
       let l = clean-rank _ _ _ _ _ _ _ _ c (t .0) .0 in
       (subject-named s 4 a (t .1) l, l, clean-notice _ _ _ _ _ _ _ _ c refl)

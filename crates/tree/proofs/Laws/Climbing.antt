@@ -79,14 +79,14 @@ reached-link anc marks p h =
     ap (λ (k : ℕ). getD (p ∷ path anc marks p) k none) (links-link anc marks p (parent anc marks p) refl h)
     ∙ ap (λ (l : List ℕ). getD l (links anc marks (parent anc marks p)) none) (path-link anc marks p h)
 
+root-ends : (anc : ℕ → ℕ) (n marks p : ℕ) → p < n → Free marks p → parent anc marks p ≡ none → IsRoot anc n marks (reached anc marks p (links anc marks p))
+root-ends anc n marks p l f e = subst (IsRoot anc n marks) (sym (reached-root anc marks p e)) (record { inside = l; unmarked = f; parentless = e })
+
 -- From an unmarked rank of the group all links lead to a root.
 ends : (anc : ℕ → ℕ) (n marks d p : ℕ) → p ≤ d → p < n → Free marks p → IsRoot anc n marks (reached anc marks p (links anc marks p))
-ends anc n marks zero p h l f = let e : parent anc marks p ≡ none = no-parent anc marks p (λ k m. absurd (omega arith)) in subst (IsRoot anc n marks) (sym (reached-root anc marks p e)) (record { inside = l; unmarked = f; parentless = e })
-ends anc n marks (suc d) p h l f = ⊎-elim root (link (ends anc n marks d (parent anc marks p))) (eq-or-ne (parent anc marks p) none)
+ends anc n marks zero p h l f = root-ends anc n marks p l f (no-parent anc marks p (λ k m. absurd (omega arith)))
+ends anc n marks (suc d) p h l f = ⊎-elim (root-ends anc n marks p l f) (link (ends anc n marks d (parent anc marks p))) (eq-or-ne (parent anc marks p) none)
   where
-    root : parent anc marks p ≡ none → IsRoot anc n marks (reached anc marks p (links anc marks p))
-    root e = subst (IsRoot anc n marks) (sym (reached-root anc marks p e)) (record { inside = l; unmarked = f; parentless = e })
-
     link : (parent anc marks p ≤ d → parent anc marks p < n → Free marks (parent anc marks p) → IsRoot anc n marks (reached anc marks (parent anc marks p) (links anc marks (parent anc marks p)))) → (parent anc marks p ≡ none → ⊥) → IsRoot anc n marks (reached anc marks p (links anc marks p))
     link ih e =
         let m : parent anc marks p < p = parent-lt anc marks p e in
