@@ -62,8 +62,10 @@ impl Case {
     }
 }
 
-pub fn read(text: &str) -> Vec<Case> {
-    text.lines().map(|line| Case::read(line).unwrap_or_else(|| panic!("{line}: not a case"))).collect()
+/// The cases of a text, or the number of the first line that is none.
+pub fn read(text: &str) -> Result<Vec<Case>, String> {
+    let cases = text.lines().enumerate();
+    cases.map(|(k, line)| Case::read(line).ok_or(format!("line {}: not a case", k + 1))).collect()
 }
 
 pub fn lines(cases: &[Case]) -> String {
@@ -87,15 +89,22 @@ mod tests {
     #[test]
     fn example_7() {
         let text = "climb 64 0 63 6\nclimb 64 0 63 5\n";
-        assert_eq!(lines(&read(text)), text);
-        assert_eq!(answers(&read(text)), "climb 0 0 6\nclimb 12 1 5\n");
+        let cases = read(text).expect("cases");
+        assert_eq!(lines(&cases), text);
+        assert_eq!(answers(&cases), "climb 0 0 6\nclimb 12 1 5\n");
     }
 
     #[test]
     fn example_2() {
         let rest = " 255".repeat(56);
         let text = format!("mark 8 0 1 255 0 1 1 2 2 3 3{rest}\n");
-        assert_eq!(lines(&read(&text)), text);
-        assert_eq!(answers(&read(&text)), format!("mark 0 2 2 255 0 0 0 2 2 3 3{rest}\n"));
+        let cases = read(&text).expect("cases");
+        assert_eq!(lines(&cases), text);
+        assert_eq!(answers(&cases), format!("mark 0 2 2 255 0 0 0 2 2 3 3{rest}\n"));
+    }
+    #[test]
+    fn bad_lines() {
+        assert_eq!(read("climb 64 0 63 6\nclimb 64\n"), Err("line 2: not a case".to_string()));
+        assert_eq!(read("\n"), Err("line 1: not a case".to_string()));
     }
 }

@@ -2,6 +2,7 @@
 //! random views.
 
 use crate::cases::{answers, lines};
+use crate::fail;
 use crate::file::listing;
 use crate::random::{schedule, Random};
 use crate::random_views::cases;
@@ -17,7 +18,7 @@ fn answer(program: &str, input: &[u8]) -> String {
         .stdin(Stdio::piped())
         .stdout(Stdio::piped())
         .spawn()
-        .unwrap_or_else(|why| panic!("{program}: {why}"));
+        .unwrap_or_else(|why| fail(3, &format!("{program}: {why}")));
     let mut pipe = child.stdin.take().expect("a pipe");
     let output = thread::scope(|scope| {
         // A program that reads no more than it needs closes its end early; its answer still counts.

@@ -16,23 +16,6 @@ pub fn write(n: u8, events: &[Event]) -> Vec<u8> {
     bytes
 }
 
-/// The file that a text describes: `n SIZE`, then a line `KIND A B` for each event; `#` begins a comment.
-pub fn written(text: &str) -> Vec<u8> {
-    let lines = text.lines().filter(|l| !l.starts_with('#') && !l.trim().is_empty());
-    let mut n = 0;
-    let mut events = Vec::new();
-    for line in lines {
-        let words: Vec<&str> = line.split_whitespace().collect();
-        let word = |k: usize| words[k].parse::<u32>().unwrap_or_else(|_| panic!("{line}: not a number"));
-        match words.len() {
-            2 if words[0] == "n" => n = word(1) as u8,
-            3 => events.push(Event { kind: word(0) as u8, a: word(1), b: word(2) }),
-            _ => panic!("{line}: neither a size nor an event"),
-        }
-    }
-    write(n, &events)
-}
-
 fn number(bytes: &[u8]) -> u32 {
     bytes.iter().rev().fold(0, |sum, byte| sum * 256 + *byte as u32)
 }
@@ -84,6 +67,7 @@ pub fn listing(bytes: &[u8]) -> String {
 #[cfg(test)]
 mod tests {
     use super::*;
+    use crate::events::written;
 
     #[test]
     fn document_01() {
@@ -107,7 +91,7 @@ mod tests {
     fn examples() {
         for name in ["three", "broken_middle", "root_dies", "two_roots", "sixty_four", "reporter_hangs"] {
             let bytes = std::fs::read(format!("{EXAMPLES}/{name}.agr")).expect("a schedule");
-            assert_eq!(written(&example(&format!("{name}.events"))), bytes, "{name}");
+            assert_eq!(written(&example(&format!("{name}.events"))), Ok(bytes.clone()), "{name}");
             assert_eq!(listing(&bytes), example(&format!("{name}.listing")), "{name}");
         }
     }

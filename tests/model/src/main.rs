@@ -1,7 +1,7 @@
 //! A second opinion on schedules, marks and climbs, written from document 01 and request 2026-04 alone.
 //!
 //!     model listing < FILE                   the listing that FILE must have
-//!     model write < EVENTS > FILE            the schedule that a text describes: `n SIZE`, then `KIND A B` lines, `#` comments
+//!     model write [EVENTS] > FILE            the schedule that a text describes (events.rs)
 //!     model schedule SEED > FILE             a random schedule
 //!     model data SEED COUNT DIR              COUNT of them as DIR/000.agr and on, few of them long, then those at the limits; their
 //!                                            listings on standard output
@@ -9,9 +9,13 @@
 //!     model views SEED COUNT > CASES         COUNT random marks and climbs, a line each
 //!     model answers < CASES                  the lines that must answer them
 //!     model compare-views PROGRAM SEED COUNT the program's answers beside the model's
+//!
+//! It ends with 1 where a text is refused or a comparison finds a difference, 2 for a wrong use, 3 where reading or
+//! writing failed.
 
 mod cases;
 mod compare;
+mod events;
 mod file;
 mod group;
 mod random;
@@ -21,11 +25,48 @@ mod tree;
 mod views;
 
 use random::{limits, schedule, Random};
-use std::io::{Read, Write};
+use std::io::{ErrorKind, Read, Write};
 use std::process::exit;
 
+/// Ends the program with a line on standard error, under the name that it was called by.
+pub fn fail(code: i32, why: &str) -> ! {
+    let called = std::env::args().next().unwrap_or_default();
+    eprintln!("{}: {why}", called.rsplit('/').next().unwrap_or_default());
+    exit(code)
+}
+
 fn number(text: &str) -> u64 {
-    text.parse().unwrap_or_else(|_| panic!("{text}: not a number"))
+    text.parse().unwrap_or_else(|_| fail(2, &format!("{text}: not a number")))
+}
+
+fn print(bytes: &[u8]) {
+    let mut output = std::io::stdout();
+    if output.write_all(bytes).and_then(|()| output.flush()).is_err() {
+        fail(3, "writing failed");
+    }
+}
+
+const INPUT: &str = "standard input";
+
+fn input() -> Vec<u8> {
+    let mut bytes = Vec::new();
+    if std::io::stdin().read_to_end(&mut bytes).is_err() {
+        fail(3, &format!("{INPUT}: reading failed"));
+    }
+    bytes
+}
+
+fn read(name: &str) -> Vec<u8> {
+    std::fs::read(name).unwrap_or_else(|why| match why.kind() {
+        ErrorKind::NotFound => fail(3, &format!("{name}: there is no such file")),
+        _ => fail(3, &format!("{name}: reading failed")),
+    })
+}
+
+/// What a text says; what is wrong is told with the text's name.
+fn said<T>(name: &str, bytes: Vec<u8>, says: fn(&str) -> Result<T, String>) -> T {
+    let text = String::from_utf8(bytes).map_err(|_| "not a text".to_string());
+    text.and_then(|text| says(&text)).unwrap_or_else(|why| fail(1, &format!("{name}: {why}")))
 }
 
 /// Long files teach little more than short ones: one in six may be. After them the files at the limits.
@@ -35,19 +76,12 @@ fn data(seed: u64, count: u64, dir: &str) {
     let kept = files.filter(|(seed, bytes)| bytes.len() < 1500 || seed % 6 == 0).map(|(_, bytes)| bytes);
     let limits = limits(&mut Random::new(seed));
     for (k, bytes) in kept.take(count as usize).chain(limits).enumerate() {
-        std::fs::write(format!("{dir}/{k:03}.agr"), &bytes).expect("a file written");
-        print!("{}", file::listing(&bytes));
+        let name = format!("{dir}/{k:03}.agr");
+        if let Err(why) = std::fs::write(&name, &bytes) {
+            fail(3, &format!("{name}: {why}"));
+        }
+        print(file::listing(&bytes).as_bytes());
     }
-}
-
-fn input() -> Vec<u8> {
-    let mut bytes = Vec::new();
-    std::io::stdin().read_to_end(&mut bytes).expect("standard input");
-    bytes
-}
-
-fn text() -> String {
-    String::from_utf8(input()).expect("a text")
 }
 
 /// A comparison that finds a difference ends the program with 1.
@@ -61,24 +95,19 @@ fn main() {
     let words: Vec<String> = std::env::args().skip(1).collect();
     let words: Vec<&str> = words.iter().map(String::as_str).collect();
     match words[..] {
-        ["listing"] => print!("{}", file::listing(&input())),
-        ["write"] => {
-            let bytes = file::written(&text());
-            std::io::stdout().write_all(&bytes).expect("a file written");
-        }
-        ["schedule", seed] => {
-            let bytes = schedule(&mut Random::new(number(seed)));
-            std::io::stdout().write_all(&bytes).expect("a file written");
-        }
+        ["listing"] => print(file::listing(&input()).as_bytes()),
+        ["write"] => print(&said(INPUT, input(), events::written)),
+        ["write", name] => print(&said(name, read(name), events::written)),
+        ["schedule", seed] => print(&schedule(&mut Random::new(number(seed)))),
         ["data", seed, count, dir] => data(number(seed), number(count), dir),
         ["compare", program, seed, count] => ends(compare::compare(program, number(seed), number(count))),
-        ["views", seed, count] => print!("{}", cases::lines(&random_views::cases(number(seed), number(count)))),
-        ["answers"] => print!("{}", cases::answers(&cases::read(&text()))),
+        ["views", seed, count] => print(cases::lines(&random_views::cases(number(seed), number(count))).as_bytes()),
+        ["answers"] => print(cases::answers(&said(INPUT, input(), cases::read)).as_bytes()),
         ["compare-views", program, seed, count] => ends(compare::compare_views(program, number(seed), number(count))),
-        _ => {
-            eprintln!("model listing | write | schedule SEED | data SEED COUNT DIR | compare PROGRAM SEED COUNT");
-            eprintln!("      views SEED COUNT | answers | compare-views PROGRAM SEED COUNT");
-            exit(2);
-        }
+        _ => fail(
+            2,
+            "listing | write [EVENTS] | schedule SEED | data SEED COUNT DIR | compare PROGRAM SEED COUNT | \
+             views SEED COUNT | answers | compare-views PROGRAM SEED COUNT",
+        ),
     }
 }

@@ -214,7 +214,7 @@ mod tests {
     /// Among the cases that the gate runs is each answer of each call, for each of its reasons.
     #[test]
     fn every_answer_occurs() {
-        let cases = read(&gate("stdin"));
+        let cases = read(&gate("stdin")).expect("cases");
         assert_eq!(answers(&cases), gate("stdout"));
         let shown: BTreeSet<&str> = cases.into_iter().map(shows).collect();
         let wanted = [
