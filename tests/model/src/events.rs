@@ -3,12 +3,18 @@
 use crate::file::write;
 use crate::group::Event;
 
+/// What a complaint shows of a text: its start, on one line.
+fn shown(text: &str) -> String {
+    text.trim().chars().take(40).flat_map(char::escape_debug).collect()
+}
+
 /// A decimal number of at most `most`, written in digits alone.
 fn number(word: &str, most: u32) -> Result<u32, String> {
     if word.is_empty() || !word.bytes().all(|byte| byte.is_ascii_digit()) {
-        return Err(format!("`{word}` is no number"));
+        return Err(format!("`{}` is no number", shown(word)));
     }
-    word.parse().ok().filter(|value| *value <= most).ok_or(format!("{word} does not fit, the most here is {most}"))
+    let value = word.parse().ok().filter(|value| *value <= most);
+    value.ok_or(format!("{} does not fit, the most here is {most}", shown(word)))
 }
 
 /// A byte: a size or a kind. Whether the program takes it is for the program to say.
@@ -33,7 +39,7 @@ pub fn written(text: &str) -> Result<Vec<u8>, String> {
             (["n", _], Some(_)) => return Err(at("a second size".to_string())),
             ([kind, a, b], Some(_)) => events.push(event(kind, a, b).map_err(at)?),
             ([_, _, _], None) => return Err(at("an event before the size, `n SIZE`".to_string())),
-            _ => return Err(at(format!("`{}` is neither `n SIZE` nor `KIND A B`", line.trim()))),
+            _ => return Err(at(format!("`{}` is neither `n SIZE` nor `KIND A B`", shown(line)))),
         }
     }
     match size {
@@ -83,6 +89,7 @@ mod tests {
             ("n 3\n1 0 0\nenter 0 5\n", "line 3: `enter` is no number"),
             ("n 3\n1 0 0x5\n", "line 2: `0x5` is no number"),
             ("n\n", "line 1: `n` is neither `n SIZE` nor `KIND A B`"),
+            ("AGR\x01\0\x03\x01", "line 1: `AGR\\u{1}\\0\\u{3}\\u{1}` is neither `n SIZE` nor `KIND A B`"),
             ("size 3\n", "line 1: `size 3` is neither `n SIZE` nor `KIND A B`"),
         ] {
             assert_eq!(written(text), Err(why.to_string()), "{text}");
