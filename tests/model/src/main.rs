@@ -25,13 +25,16 @@ mod tree;
 mod views;
 
 use random::{limits, schedule, Random};
+use std::ffi::{OsStr, OsString};
 use std::io::{ErrorKind, Read, Write};
+use std::path::Path;
 use std::process::exit;
 
-/// Ends the program with a line on standard error, under the name that it was called by.
+/// Ends the program with a line on standard error, if that can be written, under the name that it was called by.
 pub fn fail(code: i32, why: &str) -> ! {
-    let called = std::env::args().next().unwrap_or_default();
-    eprintln!("{}: {why}", called.rsplit('/').next().unwrap_or_default());
+    let called = std::env::args_os().next().unwrap_or_default();
+    let name = Path::new(&called).file_name().unwrap_or_default().to_string_lossy();
+    let _ = writeln!(std::io::stderr(), "{name}: {why}");
     exit(code)
 }
 
@@ -56,16 +59,19 @@ fn input() -> Vec<u8> {
     bytes
 }
 
-fn read(name: &str) -> Vec<u8> {
-    std::fs::read(name).unwrap_or_else(|why| match why.kind() {
-        ErrorKind::NotFound => fail(3, &format!("{name}: there is no such file")),
-        _ => fail(3, &format!("{name}: reading failed")),
+fn read(file: &OsStr) -> Vec<u8> {
+    std::fs::read(file).unwrap_or_else(|why| match why.kind() {
+        ErrorKind::NotFound => fail(3, &format!("{}: there is no such file", file.to_string_lossy())),
+        _ => fail(3, &format!("{}: reading failed", file.to_string_lossy())),
     })
 }
 
 /// What a text says; what is wrong is told with the text's name.
 fn said<T>(name: &str, bytes: Vec<u8>, says: fn(&str) -> Result<T, String>) -> T {
-    let text = String::from_utf8(bytes).map_err(|_| "not a text".to_string());
+    let text = String::from_utf8(bytes).map_err(|why| {
+        let before = &why.as_bytes()[..why.utf8_error().valid_up_to()];
+        format!("line {}: not a text", 1 + before.iter().filter(|byte| **byte == b'\n').count())
+    });
     text.and_then(|text| says(&text)).unwrap_or_else(|why| fail(1, &format!("{name}: {why}")))
 }
 
@@ -92,12 +98,13 @@ fn ends(same: bool) {
 }
 
 fn main() {
-    let words: Vec<String> = std::env::args().skip(1).collect();
-    let words: Vec<&str> = words.iter().map(String::as_str).collect();
+    let given: Vec<OsString> = std::env::args_os().skip(1).collect();
+    let words: Vec<_> = given.iter().map(|word| word.to_string_lossy()).collect();
+    let words: Vec<&str> = words.iter().map(|word| word.as_ref()).collect();
     match words[..] {
         ["listing"] => print(file::listing(&input()).as_bytes()),
         ["write"] => print(&said(INPUT, input(), events::written)),
-        ["write", name] => print(&said(name, read(name), events::written)),
+        ["write", name] => print(&said(name, read(&given[1]), events::written)),
         ["schedule", seed] => print(&schedule(&mut Random::new(number(seed)))),
         ["data", seed, count, dir] => data(number(seed), number(count), dir),
         ["compare", program, seed, count] => ends(compare::compare(program, number(seed), number(count))),
