@@ -1,14 +1,15 @@
 -- Demand 3 as theorems over the states that a group can be in: from an accepted start, by accepted events. Every such state is in order
--- (`Laws/Reached`), and what holds of any state in order is in `Laws/Moving`. Over any ancestor sets, save the last. Assumes nothing.
+-- (`Laws/Reached`), and what holds of any state in order is in `Laws/Moving` and `Laws/Answering`. Over any ancestor sets, save the last. Assumes nothing.
 use mathlib.Core.Path.{_≡_, sym, ap, subst}
 use mathlib.Core.Bool.{true, false, _||_}
 use Prim.Native.Nat.{ℕ, _^_, _≤_, _<_}
 use native.Mathlib.Nat.{le-trans}
 use native.Mathlib.Omega.{arith}
 use lib.ListN.{getD}
-use Rattle.sets.specs.Sets.{has, add, union, below}
-use Rattle.tree.specs.Tree.{flat, fresh, links, reached, IsRoot, digits}
+use Rattle.sets.specs.Sets.{has, add, union, below, count}
+use Rattle.tree.specs.Tree.{flat, fresh, endedAt, links, reached, IsRoot, digits}
 use Rattle.tree.specs.Calls.{Told, climbed}
+use Rattle.tree.proofs.Laws.Mending.{moved-size}
 use Rattle.tree.proofs.Laws.Climbing.{path-ends, one-root, digits-enough, digits-least, climb-within-digits}
 use Rattle.tree.proofs.Laws.Calls.{climb-whole}
 use Rattle.rank.specs.Words.{ask}
@@ -17,9 +18,10 @@ use Rattle.state.specs.declared.State.{State}
 use Rattle.state.specs.States.{rankAt, rowAt, placeAt}
 use Rattle.order.specs.Between.{InOrder}
 use Rattle.group.specs.Events.{event}
-use Rattle.group.specs.Reaching.{Reaches, MovesExactly, AskMoves}
+use Rattle.group.specs.Reaching.{Reaches, MovesExactly, AskMoves, endedAtSome}
 use Rattle.group.proofs.Laws.Reached.{reached-small, reached-in-order, reached-size, reached-inside, reached-member}
 use Rattle.group.proofs.Laws.Moving.{link-free, others-move-nothing, notice-knows, notice-moves, known-death-stays, dropped-moves-nothing, ask-knows, ask-moves}
+use Rattle.group.proofs.Laws.Answering.{notice-answers, notice-who, ask-who}
 
 -- Every reached state is in order.
 pub a-reached-state-is-in-order : (anc : ℕ → ℕ) (n : ℕ) (s : State) → Reaches anc n s → InOrder anc s
@@ -62,6 +64,16 @@ module _ (anc : ℕ → ℕ) (n : ℕ) (s : State) (run : Reaches anc n s) (a b 
   pub a-notice-moves-exactly : MovesExactly n b (rowAt s a) (rowAt (event anc s 4 a b .state) a)
   a-notice-moves-exactly p l = notice-moves anc s (reached-in-order anc n s run) a b z p (reached-inside anc n s run p l)
 
+  -- The set that it answers: a rank is in it exactly when it is unmarked after the mark and its entry ended at the newly marked one.
+  pub a-notice-answers-who-moved : (p : ℕ) → has (event anc s 4 a b .moved .ranks) p ≡ endedAt n b (rankAt (event anc s 4 a b .state) a .marks) (rowAt s a) p
+  a-notice-answers-who-moved p =
+      subst (λ (m : ℕ). has (event anc s 4 a b .moved .ranks) p ≡ endedAt m b (rankAt (event anc s 4 a b .state) a .marks) (rowAt s a) p) (reached-size anc n s run)
+      (notice-who anc s (reached-in-order anc n s run) a b z p)
+
+  -- Its count is that set's size.
+  pub a-notice-counts-who-moved : event anc s 4 a b .moved .count ≡ count (has (event anc s 4 a b .moved .ranks)) 64
+  a-notice-counts-who-moved = rw (notice-answers anc s (reached-in-order anc n s run) a b z) (moved-size anc (s .group .n) (rankAt s a .marks) b)
+
   -- A death that was known already moves nothing.
   pub a-known-death-moves-nothing : has (rankAt s a .marks) b ≡ true → rowAt (event anc s 4 a b .state) a ≡ rowAt s a
   a-known-death-moves-nothing = known-death-stays anc s (reached-in-order anc n s run) a b z
@@ -85,6 +97,14 @@ module _ (anc : ℕ → ℕ) (n : ℕ) (s : State) (run : Reaches anc n s) (a b 
   an-ask-moves-exactly k t =
       subst (λ (m : ℕ). AskMoves anc m (rankAt s (placeAt s a .to) .marks) (placeAt s a .from) (rowAt s (placeAt s a .to)) (rowAt (event anc s 2 a b .state) (placeAt s a .to))) (reached-size anc n s run)
       (ask-moves anc s (reached-in-order anc n s run) a b z k t)
+
+  -- The set that it answers: a rank is in it exactly when, at one of these marks, it is unmarked after the mark and its entry ended at the newly
+  -- marked one.
+  pub an-ask-answers-who-moved : placeAt s a .kind ≡ ask → has (s .group .dead) (placeAt s a .to) || has (rankAt s (placeAt s a .to) .marks) (placeAt s a .from) ≡ false
+      → (p : ℕ) → has (event anc s 2 a b .moved .ranks) p ≡ endedAtSome anc n (rankAt s (placeAt s a .to) .marks) (placeAt s a .from) p
+  an-ask-answers-who-moved k t p =
+      subst (λ (m : ℕ). has (event anc s 2 a b .moved .ranks) p ≡ endedAtSome anc m (rankAt s (placeAt s a .to) .marks) (placeAt s a .from) p) (reached-size anc n s run)
+      (ask-who anc s (reached-in-order anc n s run) a b z k t p)
 
 -- ---- the climb
 

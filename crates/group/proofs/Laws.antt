@@ -7,4 +7,5 @@ pub mod Moving
 pub mod Flying
 pub mod Following
 pub mod Changing
+pub mod Answering
 pub mod Reached

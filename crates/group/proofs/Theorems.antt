@@ -1,27 +1,26 @@
 -- The promises of the group layer, each under a name that says it: what a caller of start and event sees, over the states that a group can be
 -- in. Over any ancestor sets. Assumes nothing.
-use mathlib.Core.Path.{_≡_, refl, ap₂, _∙_}
+use mathlib.Core.Path.{_≡_, refl, ap, _∙_}
 use mathlib.Core.Bool.{true, false, cond, _||_}
 use mathlib.Core.List.{_++_}
-use mathlib.Core.Logic.{inr}
 use Prim.Native.Nat.{ℕ, _≤_, _<_}
 use lib.Dec.{eqb}
 use lib.ListN.{length}
 use Rattle.sets.specs.Sets.{has, add}
 use Rattle.sets.proofs.Laws.Bools.{clash}
-use Rattle.tree.specs.Tree.{moved}
+use Rattle.tree.specs.Tree.{moved, nobody}
 use Rattle.tree.specs.Calls.{movedBelow}
 use Rattle.tree.specs.Relations.{Ancestry}
 use Rattle.rank.specs.Words.{ask}
 use Rattle.net.specs.Net.{without}
 use Rattle.refusals.specs.Refusing.{crashes, namesPlace}
-use Rattle.refusals.proofs.Laws.Refusing.{names-a-rank, names-a-place}
+use Rattle.refusals.proofs.Laws.Refusing.{names-a-place}
 use Rattle.state.specs.declared.State.{State}
 use Rattle.state.specs.States.{rankAt, rowAt, placeAt, flying}
 use Rattle.state.specs.Starting.{freshState, started}
 use Rattle.order.specs.Between.{InOrder}
 use Rattle.order.proofs.Laws.Fresh.{fresh-in-order}
-use Rattle.plans.proofs.Laws.Cases.{is-dropped, is-undropped}
+use Rattle.plans.proofs.Laws.Cases.{is-dropped}
 use Rattle.plans.proofs.Laws.Knowing as Knowing
 use Rattle.group.specs.Events.{refused, event}
 use Rattle.group.specs.Changes.{named, doing, sends}
@@ -30,7 +29,8 @@ use Rattle.group.proofs.Laws.Events.{event-on-none, event-refused}
 use Rattle.group.proofs.Laws.Moving.{event-keeps-order, event-size, others-stay, word-or-ask}
 use Rattle.group.proofs.Laws.Following.{each-rank}
 use Rattle.group.proofs.Laws.Reached.{reached-in-order, reached-size}
-use Rattle.group.proofs.Laws.Changing.{subject-is, record-is, row-is, dead-is, flying-is, sent-is, moved-is, named-rank, named-receiver}
+use Rattle.group.proofs.Laws.Changing.{subject-is, record-is, row-is, dead-is, flying-is, sent-is, moved-is, named-receiver}
+use Rattle.group.proofs.Laws.Answering.{notice-answers, ask-answers}
 
 -- ---- order
 
@@ -48,7 +48,7 @@ an-event-keeps-order = event-keeps-order
 pub a-refused-start-takes-no-event : (anc : ℕ → ℕ) (n kind a b : ℕ) → (started anc n .answer ≡ 0 → ⊥) → event anc (started anc n .state) kind a b ≡ refused 1 (started anc n .state)
 a-refused-start-takes-no-event = event-on-none
 
--- A refused event, on any state, gives its number, sent 0, moved 0 and the state unchanged in every field.
+-- A refused event, on any state, gives its number, sent 0, nobody moved and the state unchanged in every field.
 pub a-refused-event-changes-nothing : (anc : ℕ → ℕ) (s : State) (kind a b : ℕ) → (event anc s kind a b .answer ≡ 0 → ⊥) → event anc s kind a b ≡ refused (event anc s kind a b .answer) s
 a-refused-event-changes-nothing = event-refused
 
@@ -83,36 +83,29 @@ module _ (anc : ℕ → ℕ) (n : ℕ) (s : State) (run : Reaches anc n s) (kind
   sent-is-what-joined = sent-is anc s o kind a b z
 
   -- An event that is neither a notice nor the delivery of an ASK moves nothing.
-  pub nothing-else-moves : (kind ≡ 4 → ⊥) → (kind ≡ 2 → placeAt s a .kind ≡ ask → ⊥) → event anc s kind a b .moved ≡ 0
+  pub nothing-else-moves : (kind ≡ 4 → ⊥) → (kind ≡ 2 → placeAt s a .kind ≡ ask → ⊥) → event anc s kind a b .moved ≡ nobody
   unfolding doing
   nothing-else-moves h k = moved-is anc s o kind a b z ∙ Knowing.other-calm anc _ _ b _ _ _ _ kind h (λ e. word-or-ask anc s o kind a b z e (k e)) .1
 
--- moved of a notice to rank a that rank b is dead is the difference of the fresh tables with and without the mark.
+-- moved of a notice to rank a that rank b is dead is the set of ranks whose entries differ in the fresh tables with and without the mark, and
+-- its size.
 pub moved-of-a-notice : (anc : ℕ → ℕ) (n : ℕ) (s : State) → Reaches anc n s → (a b : ℕ) → event anc s 4 a b .answer ≡ 0 → event anc s 4 a b .moved ≡ moved anc n (rankAt s a .marks) b
-unfolding doing
-moved-of-a-notice anc n s run a b z =
-    moved-is anc s (reached-in-order anc n s run) 4 a b z ∙ Knowing.notice-moves anc _ _ b _ _ _ _
-    ∙ ap₂ (λ (m i : ℕ). moved anc m (rankAt s i .marks) b) (reached-size anc n s run) (named-rank s 4 a (names-a-rank 4 (inr (inr refl)) .1))
+moved-of-a-notice anc n s run a b z = notice-answers anc s (reached-in-order anc n s run) a b z ∙ ap (λ (m : ℕ). moved anc m (rankAt s a .marks) b) (reached-size anc n s run)
 
 -- ---- the delivery of the message at place a
 
 module _ (anc : ℕ → ℕ) (n : ℕ) (s : State) (run : Reaches anc n s) (a b : ℕ) (z : event anc s 2 a b .answer ≡ 0) where
-  to-is : named s 2 a ≡ placeAt s a .to
-  to-is = named-receiver s 2 a (names-a-place 2 refl)
-
-  -- moved of an ASK that is taken is the sum over its marks.
+  -- moved of an ASK that is taken is the union and the sum over its marks.
   pub moved-of-an-ask : placeAt s a .kind ≡ ask → has (s .group .dead) (placeAt s a .to) || has (rankAt s (placeAt s a .to) .marks) (placeAt s a .from) ≡ false
       → event anc s 2 a b .moved ≡ movedBelow anc n (rankAt s (placeAt s a .to) .marks) (placeAt s a .from)
-  unfolding doing
   moved-of-an-ask k t =
-      moved-is anc s (reached-in-order anc n s run) 2 a b z
-      ∙ Knowing.ask-moves anc _ _ b _ _ _ _ k (is-undropped (s .group .dead) (named s 2 a) (placeAt s a) (rankAt s (named s 2 a)) (rw to-is t))
-      ∙ ap₂ (λ (m i : ℕ). movedBelow anc m (rankAt s i .marks) (placeAt s a .from)) (reached-size anc n s run) to-is
+      ask-answers anc s (reached-in-order anc n s run) a b z k t ∙ ap (λ (m : ℕ). movedBelow anc m (rankAt s (placeAt s a .to) .marks) (placeAt s a .from)) (reached-size anc n s run)
 
   -- A message to a dead rank, or from a sender that the receiver has marked, moves nothing.
-  pub moved-of-a-dropped-message : has (s .group .dead) (placeAt s a .to) || has (rankAt s (placeAt s a .to) .marks) (placeAt s a .from) ≡ true → event anc s 2 a b .moved ≡ 0
+  pub moved-of-a-dropped-message : has (s .group .dead) (placeAt s a .to) || has (rankAt s (placeAt s a .to) .marks) (placeAt s a .from) ≡ true → event anc s 2 a b .moved ≡ nobody
   unfolding doing
   moved-of-a-dropped-message t =
+      let to-is : named s 2 a ≡ placeAt s a .to = named-receiver s 2 a (names-a-place 2 refl) in
       moved-is anc s (reached-in-order anc n s run) 2 a b z
       ∙ Knowing.dropped-calm anc _ _ b _ _ _ _ (is-dropped (s .group .dead) (named s 2 a) (placeAt s a) (rankAt s (named s 2 a)) (rw to-is t)) .1
 

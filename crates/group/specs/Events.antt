@@ -6,6 +6,7 @@ use lib.Dec.{eqb}
 use lib.ListN.{set}
 use Rattle.sets.specs.Sets.{add}
 use Rattle.tree.specs.Refusals.{accepted, badSize, notInOrder}
+use Rattle.tree.specs.Tree.{nobody}
 use Rattle.tree.specs.Calls.{wrongSize}
 use Rattle.rank.specs.declared.Message.{Message}
 use Rattle.rank.specs.Sends.{letters, size}
@@ -34,9 +35,9 @@ applied s place me p =
     })
     (set (s .tables) me (p .acted .row))
 
--- A refused event gives sent 0, moved 0 and the state unchanged in every field.
+-- A refused event gives sent 0, nobody moved and the state unchanged in every field.
 unfoldable pub refused : ℕ → State → Stepped
-refused number s = record { answer = number; sent = 0; moved = 0; state = s }
+refused number s = record { answer = number; sent = 0; moved = nobody; state = s }
 
 unfoldable pub carried : State → ℕ → ℕ → Plan → Stepped
 carried s place me p =

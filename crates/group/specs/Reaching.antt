@@ -1,12 +1,12 @@
--- The states that a group can be in, and what demand 3 says of two tables.
+-- The states that a group can be in, and what demand 3 says of two tables and of the set that moved.
 use Prim.Native.Nat.{ℕ, _+_, _<_}
 use mathlib.Core.Path.{_≡_}
-use mathlib.Core.Bool.{true, not}
+use mathlib.Core.Bool.{Bool, true, not}
 use mathlib.Core.List.{List}
 use lib.Dec.{eqb}
 use lib.ListN.{getD}
-use Rattle.sets.specs.Sets.{has, union, below}
-use Rattle.tree.specs.Tree.{fresh}
+use Rattle.sets.specs.Sets.{has, add, union, below, some}
+use Rattle.tree.specs.Tree.{fresh, endedAt}
 use Rattle.tree.specs.Refusals.{accepted}
 use Rattle.state.specs.declared.State.{State}
 use Rattle.state.specs.Starting.{started}
@@ -33,3 +33,7 @@ pub record AskMoves (anc : ℕ → ℕ) (n marks q : ℕ) (before after : List �
   pub each : (k : ℕ) → k < q → MovesExactly n k (tableBelow anc n marks k) (tableBelow anc n marks (k + 1))
   pub known : (k : ℕ) → k < q → has marks k ≡ true → tableBelow anc n marks (k + 1) ≡ tableBelow anc n marks k
   pub ends : tableBelow anc n marks q ≡ after
+
+-- Who moved by an ASK from q: at one of its marks p is unmarked after the mark, and its entry ended at the newly marked one.
+unfoldable pub endedAtSome : (ℕ → ℕ) → ℕ → ℕ → ℕ → ℕ → Bool
+endedAtSome anc n marks q p = some (λ k. endedAt n k (add (union marks (below k)) k) (tableBelow anc n marks k) p) q

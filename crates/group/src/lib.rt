@@ -4,6 +4,7 @@ use plans::Plan;
 use rank::Message;
 use state::Group;
 use state::State;
+use tree::Moved;
 ghost use mathlib.Core.Path.{_≡_};
 ghost use mathlib.Core.Bool.{cond, true};
 ghost use Prim.Native.Nat.{_+_, _-_, _<_, _≤_};
@@ -16,11 +17,11 @@ ghost use Rattle.order.specs.Between.{InOrder};
 ghost use Rattle.group.specs.Events.{applied, event, planOf, posted, refused, stepped, subjectOf};
 ghost use Rattle.group.specs.Between.{Carriable};
 
-// The answer of event.
+// The answer of event: the number, how many messages were sent, which ranks moved, and the state.
 pub struct Stepped {
     pub answer: u32,
     pub sent: u32,
-    pub moved: u32,
+    pub moved: Moved,
     pub state: State,
 }
 
@@ -116,7 +117,7 @@ fn refused(answer: u32, s: State) -> Stepped
     Stepped {
         answer,
         sent: 0,
-        moved: 0,
+        moved: Moved::nobody(),
         state: s,
     }
 }
@@ -133,10 +134,11 @@ pub fn step(s: State, kind: u32, a: u32, b: u32) -> Stepped
     let acted = p.acted;
     let first = acted.first;
     let second = acted.second;
+    let moved = acted.moved;
     Stepped {
         answer: 0,
         sent: sets::size(first.to) as u32 + sets::size(second.to) as u32,
-        moved: acted.moved,
+        moved,
         state: carry(s, a, subject_of(s, kind, a), p),
     }
 }

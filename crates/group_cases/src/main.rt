@@ -18,7 +18,8 @@ fn play(text: &[u8]) {
         let b = text[k];
         if r.hidden {
             t = obey::obey(t, r, b);
-            totals = script::count(totals, b, t.answer, t.sent, t.moved);
+            let moved = t.moved;
+            totals = script::count(totals, b, t.answer, t.sent, moved.count);
             show::show(t, totals, r.z, b);
         }
         r = script::take(r, b);
@@ -26,8 +27,9 @@ fn play(text: &[u8]) {
     }
 }
 
+// A script has room for 4,096 events.
 fn main() {
-    let mut text = [0u8; 16384];
+    let mut text = [0u8; 262144];
     let got = io::read_full(STDIN_FILENO, &mut text);
     play(&text[..got]);
 }

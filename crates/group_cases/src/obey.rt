@@ -3,6 +3,7 @@ use super::by_hand;
 use super::script::Reader;
 use group::Stepped;
 use state::State;
+use tree::Moved;
 
 pub fn start(n: u32) -> Stepped {
     let r = state::start(n);
@@ -10,7 +11,7 @@ pub fn start(n: u32) -> Stepped {
     Stepped {
         answer: r.answer,
         sent: 0,
-        moved: 0,
+        moved: Moved::nobody(),
         state,
     }
 }

@@ -1,11 +1,12 @@
-// The commands that print: A the answer of a start, E the answers of an event, F how many messages are in flight, R a rank's line after
-// its number, N S M the totals.
+// The commands that print: A the answer of a start, E the answers of an event, W which ranks it moved, F how many messages are in flight, R a
+// rank's line after its number, N S M the totals.
 use super::by_hand::small;
 use super::script::Totals;
 use group::Stepped;
 use libc::STDOUT_FILENO;
 use rank::Rank;
 use state::State;
+use tree::Moved;
 
 pub fn echo(b: u8) {
     io::write_all(STDOUT_FILENO, &[b]);
@@ -20,11 +21,16 @@ fn spaced(n: u32) {
     number(n);
 }
 
-// Answer, sent and moved.
+// Answer, sent and how many moved.
 fn answers(answer: u32, sent: u32, moved: u32) {
     spaced(answer);
     spaced(sent);
     spaced(moved);
+}
+
+fn ranks(moved: Moved) {
+    echo(b' ');
+    io::print_decimal(STDOUT_FILENO, moved.ranks);
 }
 
 fn flight(s: State) {
@@ -66,9 +72,11 @@ fn total(t: Totals, b: u8) {
 
 pub fn show(t: Stepped, totals: Totals, n: u32, b: u8) {
     let s = t.state;
+    let moved = t.moved;
     match b {
         b'A' => spaced(t.answer),
-        b'E' => answers(t.answer, t.sent, t.moved),
+        b'E' => answers(t.answer, t.sent, moved.count),
+        b'W' => ranks(moved),
         b'F' => flight(s),
         b'R' => rank(s, small(n)),
         _ => total(totals, b),

@@ -8,6 +8,7 @@ use lib.ListN.{replicate}
 use Rattle.sets.specs.Sets.{has}
 use Rattle.tree.specs.Tree.{flat}
 use Rattle.tree.specs.Calls.{same}
+use Rattle.tree.specs.Examples.{tallies}
 use Rattle.rank.specs.declared.Rank.{Rank}
 use Rattle.net.specs.Net.{inFlight}
 use Rattle.state.specs.declared.State.{State}
@@ -100,9 +101,22 @@ crowded =
     })
     (two .tables)
 
+-- Rank 2 of four, and rank 3 of five: it has reported, every rank below it has crashed, and it is told of them one after the other, until it is
+-- the root and asks the last rank, which knows no death.
+unfoldable pub four : State
+four = played flat (file 4 (then 1 2 7 (then 3 0 0 (then 3 1 0 (then 4 2 0 (then 4 2 1 [])))))) 5 0 (started flat 4 .state) [] .state
+
+unfoldable pub five : State
+five =
+    played flat (file 5 (then 1 3 7 (then 3 0 0 (then 3 1 0 (then 3 2 0 (then 4 3 0 (then 4 3 1 (then 4 3 2 [])))))))) 7 0 (started flat 5 .state) [] .state
+
+-- An event is accepted, and moves these ranks, counted so often.
+unfoldable pub movesThese : Stepped → ℕ → ℕ → Bool
+movesThese r ranks count = eqb (r .answer) 0 && tallies (r .moved) ranks count
+
 -- An event is refused with this number, sends nothing and moves nothing. That the state is unchanged is a theorem of every refused event.
 unfoldable pub refuses : Stepped → ℕ → Bool
-refuses r number = eqb (r .answer) number && eqb (r .sent) 0 && eqb (r .moved) 0
+refuses r number = eqb (r .answer) number && eqb (r .sent) 0 && tallies (r .moved) 0 0
 
 -- A run is refused with this number, gives a group of none and leaves the slice as found.
 unfoldable pub leaves : Run → ℕ → List ℕ → Bool
@@ -146,6 +160,12 @@ witnesses =
     ∷ (goes 7 && eqb (seen 8 1 .phase) 1)
     -- ASK: rank 2 marks rank 0, owes rank 1, and reports to it.
     ∷ (goes 8 && has (seen 9 2 .marks) 0 && has (seen 9 2 .owed) 1 && eqb (seen 9 2 .phase) 2)
+    -- moved of a notice: in rank 1's view of three, and in rank 2's by the ASK, rank 1 moves.
+    ∷ (movesThese (stepAt flat three 6 (later 6)) 0b10 1 && movesThese (stepAt flat three 8 (later 8)) 0b10 1)
+    -- moved of an ASK, the union over its marks: of 1, then 2 and 3, though the second mark marks 1.
+    ∷ (movesThese (event flat four 2 1 0) 0b1110 3 && has (rankAt (event flat four 2 1 0 .state) 3 .marks) 1)
+    -- and the sum over its marks: 1, then 2 and 3, then 3 and 4, so 3 counts twice.
+    ∷ movesThese (event flat five 2 2 0) 0b11110 5
     -- DOWN: rank 2 decides 6.
     ∷ (goes 10 && eqb (seen 11 2 .phase) 3 && eqb (seen 11 2 .result) 6)
     -- A lost message.

@@ -5,6 +5,7 @@ use mathlib.Core.List.{List}
 use lib.Dec.{eqb, ltb}
 use Rattle.sets.specs.Sets.{has}
 use Rattle.tree.specs.Refusals.{accepted, tooMany}
+use Rattle.tree.specs.Tree.{nobody}
 use Rattle.rank.specs.declared.Rank.{Rank}
 use Rattle.rank.specs.declared.Message.{Message}
 use Rattle.rank.specs.declared.Acted.{Acted}
@@ -17,7 +18,7 @@ use Rattle.plans.specs.declared.Plan.{Plan}
 
 -- A rank that does nothing, with its row.
 abbrev pub idle : Rank → List ℕ → Acted
-idle r row = record { rank = r; row = row; first = silent; second = silent; moved = 0 }
+idle r row = record { rank = r; row = row; first = silent; second = silent; moved = nobody }
 
 -- The rank that an event is about, always one of the group: the receiver of the message, or rank a.
 unfoldable pub subject : ℕ → ℕ → ℕ → Message → ℕ

@@ -5,6 +5,7 @@ use rank::Message;
 use rank::Rank;
 use rank::Send;
 use rank::UP;
+use tree::Moved;
 ghost use mathlib.Core.Path.{_≡_};
 ghost use mathlib.Core.Bool.{cond};
 ghost use Prim.Native.Nat.{_+_, _-_, _<_};
@@ -29,7 +30,7 @@ fn idle(r: Rank, row: [u8; 64]) -> Acted
         row,
         first: Send::silent(),
         second: Send::silent(),
-        moved: 0,
+        moved: Moved::nobody(),
     }
 }
 

@@ -3,7 +3,8 @@ use Prim.Native.Nat.{ℕ}
 use mathlib.Core.Bool.{Bool, cond, _&&_, _||_}
 use lib.Dec.{eqb}
 use Rattle.sets.specs.Sets.{none, has, only, add, union, meet, minus, below}
-use Rattle.tree.specs.Tree.{children, fresh, moved}
+use Rattle.tree.specs.declared.Moved.{Moved}
+use Rattle.tree.specs.Tree.{children, fresh, moved, nobody}
 use Rattle.tree.specs.Calls.{movedBelow}
 use Rattle.rank.specs.declared.Rank.{Rank}
 use Rattle.rank.specs.declared.Send.{Send}
@@ -37,10 +38,10 @@ module _ (anc : ℕ → ℕ) (n me : ℕ) where
       (saying r silent)
 
   -- All of a rule: its own part, then nothing; and its own part, then settle. The table is the fresh one of the rank's view.
-  unfoldable pub done : Said → ℕ → Acted
+  unfoldable pub done : Said → Moved → Acted
   done s moved = record { rank = s .rank; row = fresh anc n (s .rank .marks); first = s .send; second = silent; moved = moved }
 
-  unfoldable pub settling : Said → ℕ → Acted
+  unfoldable pub settling : Said → Moved → Acted
   settling s moved =
       record {
         rank = settled (s .rank) .rank;
@@ -52,7 +53,7 @@ module _ (anc : ℕ → ℕ) (n me : ℕ) where
 
   -- Enter with w: word becomes word AND w, phase gathering. Then settle.
   unfoldable pub entering : ℕ → Rank → Acted
-  entering w r = settling (saying (becoming gathering (combining w r)) silent) 0
+  entering w r = settling (saying (becoming gathering (combining w r)) silent) nobody
 
   -- UP x from q. If decided, send DOWN result to q. Else q joins heard and owed, word becomes word AND x. Then settle.
   unfoldable pub noting : ℕ → ℕ → Rank → Rank
@@ -65,14 +66,14 @@ module _ (anc : ℕ → ℕ) (n me : ℕ) where
       (saying (noting q x r) silent)
 
   unfoldable pub takingUp : ℕ → ℕ → Rank → Acted
-  takingUp q x r = settling (raised q x r) 0
+  takingUp q x r = settling (raised q x r) nobody
 
   -- DOWN x. If gathering or waiting, decide x. Else nothing.
   unfoldable pub lowered : ℕ → Rank → Said
   lowered x r = cond (inPhase gathering r || inPhase waiting r) (deciding x r) (saying r silent)
 
   unfoldable pub takingDown : ℕ → Rank → Acted
-  takingDown x r = done (lowered x r) 0
+  takingDown x r = done (lowered x r) nobody
 
   -- ASK from q. Mark every rank below q, ascending. If decided, send DOWN result to q. Else q joins owed, and if waiting and q is now
   -- the parent, send UP word to q. Then settle.
@@ -114,5 +115,5 @@ module _ (anc : ℕ → ℕ) (n me : ℕ) where
   unfoldable pub noticing : ℕ → Rank → Acted
   noticing q r =
       cond (has (r .marks) q)
-      (done (saying r silent) 0)
+      (done (saying r silent) nobody)
       (settling (bereaved q r (viewing anc n me (add (r .marks) q) r)) (moved anc n (r .marks) q))

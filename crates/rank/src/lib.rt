@@ -1,5 +1,6 @@
 // One rank: what it holds, and what it does when it enters, takes a message, hears of a death, or settles.
 // A record goes in by value and the new record comes back, with its row of the tables, what it sends, and moved.
+use tree::Moved;
 ghost use mathlib.Core.Path.{_≡_};
 ghost use Prim.Native.Nat.{_<_, _≤_};
 ghost use mathlib.Core.Bool.{_&&_, false};
@@ -66,7 +67,7 @@ pub struct Acted {
     pub row: [u8; 64],
     pub first: Send,
     pub second: Send,
-    pub moved: u32,
+    pub moved: Moved,
 }
 
 // Two words become one.
@@ -186,7 +187,7 @@ impl Rank {
     }
 
     // Settles; `first` is what the rule has sent before.
-    pub fn settle(self, n: u8, me: u8, row: [u8; 64], first: Send, moved: u32) -> Acted
+    pub fn settle(self, n: u8, me: u8, row: [u8; 64], first: Send, moved: Moved) -> Acted
         requires { ⌜ FreshRow flat n me self row ⌝ }
         ensures { λ r. ⌜ r ≡ settling flat n me (saying self first) moved ⌝ }
     {
@@ -209,7 +210,7 @@ impl Rank {
     {
         self.word = combine(self.word, w);
         self.phase = GATHERING;
-        self.settle(n, me, row, Send::silent(), 0)
+        self.settle(n, me, row, Send::silent(), Moved::nobody())
     }
 
     // UP x from q.
@@ -220,13 +221,14 @@ impl Rank {
         ensures { λ r. ⌜ r ≡ takingUp flat n me q x self ⌝ }
     {
         if self.phase == DECIDED {
-            return self.settle(n, me, row, Send::down(self.result, sets::only(q)), 0);
+            let told = Send::down(self.result, sets::only(q));
+            return self.settle(n, me, row, told, Moved::nobody());
         }
         self.heard = sets::with(self.heard, q);
         self.owed = sets::with(self.owed, q);
         self.awaited = sets::minus(self.awaited, sets::only(q));
         self.word = combine(self.word, x);
-        self.settle(n, me, row, Send::silent(), 0)
+        self.settle(n, me, row, Send::silent(), Moved::nobody())
     }
 
     // DOWN x.
@@ -243,7 +245,7 @@ impl Rank {
                 row,
                 first,
                 second: Send::silent(),
-                moved: 0,
+                moved: Moved::nobody(),
             };
         }
         Acted {
@@ -251,7 +253,7 @@ impl Rank {
             row,
             first: Send::silent(),
             second: Send::silent(),
-            moved: 0,
+            moved: Moved::nobody(),
         }
     }
 
@@ -276,7 +278,8 @@ impl Rank {
         let seen = self.view(n, me, m.marks, table);
         let reply = seen.answer(n, me, table, q);
         let rank = reply.rank;
-        rank.settle(n, me, table, reply.send, m.moved)
+        let moved = m.moved;
+        rank.settle(n, me, table, reply.send, moved)
     }
 
     // What an ASK from q means to a rank that has marked all below q: DOWN if decided, else UP if q is now the parent.
@@ -336,7 +339,7 @@ impl Rank {
                 row,
                 first: Send::silent(),
                 second: Send::silent(),
-                moved: 0,
+                moved: Moved::nobody(),
             };
         }
         let m = tree::mend(n, self.marks, row, q);
@@ -344,7 +347,8 @@ impl Rank {
         let seen = self.view(n, me, m.marks, table);
         let said = self.bereave(n, me, row, q, seen, table);
         let rank = said.rank;
-        rank.settle(n, me, table, said.send, m.moved)
+        let moved = m.moved;
+        rank.settle(n, me, table, said.send, moved)
     }
 
     // Whether it waits, and q was its parent.

@@ -74,6 +74,7 @@ pub fn show(a: Acted) {
     send(b"\n  sends ", first);
     let second = a.second;
     send(b" then ", second);
-    number(b" moved ", a.moved);
+    let moved = a.moved;
+    number(b" moved ", moved.count);
     text(b"\n");
 }

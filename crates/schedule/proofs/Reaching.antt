@@ -26,7 +26,7 @@ use Rattle.schedule.proofs.Laws.Ending.{run-whole}
 -- ---- what is written
 
 -- An event's three numbers, and no place before them changes.
-written-tells : (out : List ℕ) (k : ℕ) (r : Stepped) → 3 * k + 3 ≤ length out → NumbersOf r (written out k (r .answer) (r .sent) (r .moved)) k
+written-tells : (out : List ℕ) (k : ℕ) (r : Stepped) → 3 * k + 3 ≤ length out → NumbersOf r (written out k (r .answer) (r .sent) (r .moved .count)) k
 unfolding written
 written-tells out k r l =
     let one = set out (3 * k) (r .answer) in
@@ -34,9 +34,9 @@ written-tells out k r l =
     let la : length one ≡ length out = length-set out (3 * k) (r .answer) in
     let lb : length two ≡ length one = length-set one (3 * k + 1) (r .sent) in
     record {
-      answer-is = getD-set-other two (3 * k + 2) (3 * k) (r .moved) 0 (λ x. omega arith) ∙ getD-set-other one (3 * k + 1) (3 * k) (r .sent) 0 (λ x. omega arith) ∙ getD-set-same out (3 * k) (r .answer) 0 (omega arith);
-      sent-is = getD-set-other two (3 * k + 2) (3 * k + 1) (r .moved) 0 (λ x. omega arith) ∙ getD-set-same one (3 * k + 1) (r .sent) 0 (omega arith);
-      moved-is = getD-set-same two (3 * k + 2) (r .moved) 0 (omega arith);
+      answer-is = getD-set-other two (3 * k + 2) (3 * k) (r .moved .count) 0 (λ x. omega arith) ∙ getD-set-other one (3 * k + 1) (3 * k) (r .sent) 0 (λ x. omega arith) ∙ getD-set-same out (3 * k) (r .answer) 0 (omega arith);
+      sent-is = getD-set-other two (3 * k + 2) (3 * k + 1) (r .moved .count) 0 (λ x. omega arith) ∙ getD-set-same one (3 * k + 1) (r .sent) 0 (omega arith);
+      moved-is = getD-set-same two (3 * k + 2) (r .moved .count) 0 (omega arith);
     }
 
 written-keeps : (out : List ℕ) (k x y z i : ℕ) → i < 3 * k → getD (written out k x y z) i 0 ≡ getD out i 0
@@ -50,7 +50,7 @@ unfolding played
 played-keeps anc file zero k s out i l = refl
 played-keeps anc file (suc more) k s out i l =
     let r = stepAt anc file k s in
-    played-keeps anc file more (k + 1) (r .state) (written out k (r .answer) (r .sent) (r .moved)) i (omega arith) ∙ written-keeps out k (r .answer) (r .sent) (r .moved) i l
+    played-keeps anc file more (k + 1) (r .state) (written out k (r .answer) (r .sent) (r .moved .count)) i (omega arith) ∙ written-keeps out k (r .answer) (r .sent) (r .moved .count) i l
 
 numbers-keep : (r : Stepped) (a b : List ℕ) (k : ℕ) → ((i : ℕ) → i < 3 * (k + 1) → getD b i 0 ≡ getD a i 0) → NumbersOf r a k → NumbersOf r b k
 numbers-keep r a b k h t = record { answer-is = h (3 * k) (omega arith) ∙ t .answer-is; sent-is = h (3 * k + 1) (omega arith) ∙ t .sent-is; moved-is = h (3 * k + 2) (omega arith) ∙ t .moved-is }
@@ -75,26 +75,26 @@ module _ (anc : ℕ → ℕ) (file : List ℕ) (n : ℕ) (begins : started anc n
 
   -- One event of a run that is at the schedule's own state.
   plays : (more k : ℕ) (out : List ℕ) → played anc file (suc more) k (stateAfter anc file n k) out
-      ≡ played anc file more (suc k) (stateAfter anc file n (suc k)) (written out k (eventOf anc file k (stateAfter anc file n k) .answer) (eventOf anc file k (stateAfter anc file n k) .sent) (eventOf anc file k (stateAfter anc file n k) .moved))
+      ≡ played anc file more (suc k) (stateAfter anc file n (suc k)) (written out k (eventOf anc file k (stateAfter anc file n k) .answer) (eventOf anc file k (stateAfter anc file n k) .sent) (eventOf anc file k (stateAfter anc file n k) .moved .count))
   unfolding played stateAfter
   plays more k out =
       let t = stepAt anc file k (stateAfter anc file n k) in
-      ap (λ (i : ℕ). played anc file more i (t .state) (written out k (t .answer) (t .sent) (t .moved))) (add-one k)
-      ∙ ap (λ (r : Stepped). played anc file more (suc k) (r .state) (written out k (r .answer) (r .sent) (r .moved))) (sym (step-is k))
+      ap (λ (i : ℕ). played anc file more i (t .state) (written out k (t .answer) (t .sent) (t .moved .count))) (add-one k)
+      ∙ ap (λ (r : Stepped). played anc file more (suc k) (r .state) (written out k (r .answer) (r .sent) (r .moved .count))) (sym (step-is k))
 
   after-played : (more k : ℕ) (out : List ℕ) → played anc file more k (stateAfter anc file n k) out .state ≡ stateAfter anc file n (k + more)
   unfolding played
   after-played zero k out = ap (stateAfter anc file n) (let e : k ≡ k + 0 = omega arith in e)
   after-played (suc more) k out =
       let r = eventOf anc file k (stateAfter anc file n k) in
-      ap (λ (e : End). e .state) (plays more k out) ∙ after-played more (suc k) (written out k (r .answer) (r .sent) (r .moved)) ∙ ap (stateAfter anc file n) (let e : suc k + more ≡ k + suc more = omega arith in e)
+      ap (λ (e : End). e .state) (plays more k out) ∙ after-played more (suc k) (written out k (r .answer) (r .sent) (r .moved .count)) ∙ ap (stateAfter anc file n) (let e : suc k + more ≡ k + suc more = omega arith in e)
 
   numbers-played : (more k j : ℕ) (out : List ℕ) → 3 * (k + more) ≤ length out → k ≤ j → j < k + more → NumbersOf (eventOf anc file j (stateAfter anc file n j)) (played anc file more k (stateAfter anc file n k) out .answers) j
   numbers-played zero k j out r l m = absurd (omega arith)
   numbers-played (suc more) k j out r l m =
       let t = eventOf anc file k (stateAfter anc file n k) in
-      let o : List ℕ = written out k (t .answer) (t .sent) (t .moved) in
-      let e : length o ≡ length out = written-long out k (t .answer) (t .sent) (t .moved) in
+      let o : List ℕ = written out k (t .answer) (t .sent) (t .moved .count) in
+      let e : length o ≡ length out = written-long out k (t .answer) (t .sent) (t .moved .count) in
       subst (λ (x : End). NumbersOf (eventOf anc file j (stateAfter anc file n j)) (x .answers) j) (sym (plays more k out))
       (⊎-elim
       (λ (q : j ≡ k). subst (λ (i : ℕ). NumbersOf (eventOf anc file i (stateAfter anc file n i)) (played anc file more (suc k) (stateAfter anc file n (suc k)) o .answers) i) (sym q) (numbers-keep t o (played anc file more (suc k) (stateAfter anc file n (suc k)) o .answers) k (λ i b. played-keeps anc file more (suc k) (stateAfter anc file n (suc k)) o i (omega arith)) (written-tells out k t (omega arith))))
@@ -117,7 +117,7 @@ module _ (file out : List ℕ) (z : run flat file out .answer ≡ 0) where
   unfolding acceptedRun
   run-after = ran (run flat file out .state ≡ stateAfter flat file (byteAt file 5) (eventsIn file)) (λ r e. ap (λ (x : Run). x .state) e ∙ after-played flat file (byteAt file 5) run-begins (eventsIn file) 0 out ∙ ap (stateAfter flat file (byteAt file 5)) (let q : 0 + eventsIn file ≡ eventsIn file = omega arith in q))
 
-  -- The three numbers that it writes of the event at place k are answer, sent and moved of `event` on the state after the first k events.
+  -- The three numbers that it writes of the event at place k are answer, sent and moved's count of `event` on the state after the first k events.
   pub run-numbers : (k : ℕ) → k < eventsIn file → NumbersOf (eventOf flat file k (stateAfter flat file (byteAt file 5) k)) (run flat file out .answers) k
   unfolding acceptedRun
   run-numbers k l = ran (NumbersOf (eventOf flat file k (stateAfter flat file (byteAt file 5) k)) (run flat file out .answers) k) (λ r e. subst (λ (x : Run). NumbersOf (eventOf flat file k (stateAfter flat file (byteAt file 5) k)) (x .answers) k) (sym e) (numbers-played flat file (byteAt file 5) run-begins (eventsIn file) 0 k out (omega arith) (omega arith) (omega arith)))

@@ -18,8 +18,8 @@ unfoldable pub stateAfter : (ℕ → ℕ) → List ℕ → ℕ → ℕ → State
 stateAfter anc file n zero = started anc n .state
 stateAfter anc file n (suc k) = eventOf anc file k (stateAfter anc file n k) .state
 
--- The three numbers at place k are an event's answer, sent and moved.
+-- The three numbers at place k are an event's answer, sent and moved's count.
 pub record NumbersOf (r : Stepped) (numbers : List ℕ) (k : ℕ) : Type 0 where
   pub answer-is : getD numbers (3 * k) 0 ≡ r .answer
   pub sent-is : getD numbers (3 * k + 1) 0 ≡ r .sent
-  pub moved-is : getD numbers (3 * k + 2) 0 ≡ r .moved
+  pub moved-is : getD numbers (3 * k + 2) 0 ≡ r .moved .count

@@ -13,7 +13,7 @@ use Rattle.files.specs.declared.Header.{Header}
 use Rattle.files.specs.declared.Header.the-variants.{Good, NoHeader, WrongMark, WrongVersion, WrongSize, TooLong, Broken}
 use Rattle.files.specs.Files.{eventAt, header, numberOf}
 
--- Answer, sent and moved of the event at place k, in a slice of three numbers an event.
+-- Answer, sent and moved's count of the event at place k, in a slice of three numbers an event.
 unfoldable pub written : List ℕ → ℕ → ℕ → ℕ → ℕ → List ℕ
 written out k answer sent moved = set (set (set out (3 * k) answer) (3 * k + 1) sent) (3 * k + 2) moved
 
@@ -31,7 +31,7 @@ unfoldable pub played : (ℕ → ℕ) → List ℕ → ℕ → ℕ → State →
 played anc file zero k s out = record { state = s; answers = out }
 played anc file (suc left) k s out =
     played anc file left (k + 1) (stepAt anc file k s .state)
-    (written out k (stepAt anc file k s .answer) (stepAt anc file k s .sent) (stepAt anc file k s .moved))
+    (written out k (stepAt anc file k s .answer) (stepAt anc file k s .sent) (stepAt anc file k s .moved .count))
 
 -- The whole run: its answer, the final state, and the slice.
 pub record Run : Type 0 where

@@ -21,18 +21,19 @@ pub struct Ran {
     pub state: State,
 }
 
-// Writes an event's answer, how many messages it sent and moved at its three places.
+// Writes an event's answer, how many messages it sent and how many ranks moved at its three places.
 fn tell(out: &mut [u32], k: usize, p: Plan)
     requires { ⌜ 3 * k + 3 ≤ length (now out) ⌝ }
-    ensures { λ _. ⌜ now (out .exit) ≡ written (now (out .entry)) k (p .answer) (size (p .acted .first) + size (p .acted .second)) (p .acted .moved) ⌝ }
+    ensures { λ _. ⌜ now (out .exit) ≡ written (now (out .entry)) k (p .answer) (size (p .acted .first) + size (p .acted .second)) (p .acted .moved .count) ⌝ }
 {
     let place = 3 * k;
     let acted = p.acted;
     let first = acted.first;
     let second = acted.second;
+    let moved = acted.moved;
     out[place] = p.answer;
     out[place + 1] = sets::size(first.to) as u32 + sets::size(second.to) as u32;
-    out[place + 2] = acted.moved;
+    out[place + 2] = moved.count;
 }
 
 // A state from its parts.
@@ -107,7 +108,7 @@ fn refuse(answer: u32) -> Ran
     Ran { answer, state }
 }
 
-// Entry point: runs a schedule file and writes answer, sent and moved for each event. Refuses with 20, 21, 22, 1, 24, 23 and 25.
+// Entry point: runs a schedule file and writes answer, sent and moved's count for each event. Refuses with 20, 21, 22, 1, 24, 23 and 25.
 pub fn run(file: &[u8], out: &mut [u32]) -> Ran
     ensures { λ r. ⌜ r .answer ≡ run flat (now (file .entry)) (now (out .entry)) .answer ⌝ }
     ensures { λ r. ⌜ r .state ≡ run flat (now (file .entry)) (now (out .entry)) .state ⌝ }

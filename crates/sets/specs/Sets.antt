@@ -1,7 +1,7 @@
 -- Sets of ranks. A set is a word, one bit a rank: rank k is a member where bit k is set.
 -- What is said of ranks by a test f, below a bound n, is said once here, for any n; a word's own test is `has w`.
 use Prim.Native.Nat.{ℕ, zero, suc, _-_, _/_, _%_, _^_}
-use mathlib.Core.Bool.{Bool, true, cond, _&&_}
+use mathlib.Core.Bool.{Bool, true, false, cond, _&&_, _||_}
 use mathlib.Core.List.{List, [], _∷_, _++_}
 use lib.Dec.{eqb}
 use lib.Bits.{bitAnd, bitOr, bitXor}
@@ -67,6 +67,11 @@ listed f (suc n) = listed f n ++ cond (f n) (n ∷ []) []
 unfoldable pub every : (ℕ → Bool) → ℕ → Bool
 every f zero = true
 every f (suc n) = every f n && f n
+
+-- Some rank below n passes f.
+unfoldable pub some : (ℕ → Bool) → ℕ → Bool
+some f zero = false
+some f (suc n) = some f n || f n
 
 -- Every test of the list passes.
 unfoldable pub all : List Bool → Bool

@@ -5,10 +5,12 @@ use mathlib.Core.List.{List}
 use Prim.Native.Nat.{ℕ}
 use contract.Lifetimes.{Lfts}
 use Rattle.sets.proofs.Laws.Alike.{alike}
+use Rattle.tree.specs.declared.Moved.{Moved}
 use Rattle.tree.specs.declared.Mended.{Mended}
 use Rattle.tree.specs.declared.Marked.{Marked}
 use Rattle.tree.specs.declared.Climbed.{Climbed}
 use Rattle.tree.proofs.Laws.Climbing.{told-determines}
+use Rattle.tree.proofs.Moved.nobody.Reads as nobody
 use Rattle.tree.proofs.ancestors.Reads as ancestors
 use Rattle.tree.proofs.parent_of.Reads as parent-of
 use Rattle.tree.proofs.fresh.Reads as fresh
@@ -19,6 +21,9 @@ use Rattle.tree.proofs.wrong_size.Reads as wrong-size
 use Rattle.tree.proofs.same.Reads as same
 use Rattle.tree.proofs.mark.Reads as mark
 use Rattle.tree.proofs.climb.Reads as climb
+
+pub nobody-determined : (κs : Lfts 0) (a : _) (t u : Moved) (x y : _) → nobody.Post κs a t x → nobody.Post κs a u y → t ≡ u
+nobody-determined κs a t u x y e f = alike e f
 
 pub ancestors-determined : (κs : Lfts 0) (a : _) (t u : ℕ) (x y : _) → ancestors.Post κs a t x → ancestors.Post κs a u y → t ≡ u
 ancestors-determined κs a t u x y e f = alike e f

@@ -5,7 +5,8 @@ use mathlib.Core.List.{List, [], _∷_}
 use lib.Dec.{eqb, ltb}
 use Rattle.sets.specs.Sets.{none, has, add, union, meet, minus, below}
 use Rattle.tree.specs.Refusals.{accepted, badSize, notInOrder, badRank, deadRank, tooShort}
-use Rattle.tree.specs.Tree.{fresh, moved, links, reached}
+use Rattle.tree.specs.Tree.{fresh, moved, nobody, links, reached}
+use Rattle.tree.specs.declared.Moved.{Moved}
 use Rattle.tree.specs.declared.Mended.{Mended}
 use Rattle.tree.specs.declared.Marked.{Marked}
 use Rattle.tree.specs.declared.Climbed.{Climbed}
@@ -15,10 +16,14 @@ use Rattle.tree.specs.declared.Climbed.the-variants.{Root, Short, WrongS
 unfoldable pub mended : (ℕ → ℕ) → ℕ → ℕ → ℕ → Mended
 mended anc n marks q = record { marks = add marks q; table = fresh anc n (add marks q); moved = moved anc n marks q }
 
--- Marking every rank below q, ascending: moved is the sum over the marks.
-unfoldable pub movedBelow : (ℕ → ℕ) → ℕ → ℕ → ℕ → ℕ
-movedBelow anc n marks zero = 0
-movedBelow anc n marks (suc k) = movedBelow anc n marks k + moved anc n (union marks (below k)) k
+-- Moved by one marking and then another: the union of the sets, and the sum of the counts.
+unfoldable pub andThen : Moved → Moved → Moved
+andThen a b = record { ranks = union (a .ranks) (b .ranks); count = a .count + b .count }
+
+-- Marking every rank below q, ascending: moved is the union and the sum over the marks.
+unfoldable pub movedBelow : (ℕ → ℕ) → ℕ → ℕ → ℕ → Moved
+movedBelow anc n marks zero = nobody
+movedBelow anc n marks (suc k) = andThen (movedBelow anc n marks k) (moved anc n (union marks (below k)) k)
 
 unfoldable pub mendedBelow : (ℕ → ℕ) → ℕ → ℕ → ℕ → Mended
 mendedBelow anc n marks q =
@@ -39,10 +44,10 @@ same (x ∷ s) (y ∷ t) = eqb x y && same s t
 unfoldable pub wrongView : (ℕ → ℕ) → ℕ → ℕ → List ℕ → Bool
 wrongView anc n marks table = not (eqb (minus marks (below n)) 0) || not (same table (fresh anc n marks))
 
--- Marking takes a view, its table and a rank. A refusal hands back view and table unchanged with moved 0; even the last
+-- Marking takes a view, its table and a rank. A refusal hands back view and table unchanged with nobody moved; even the last
 -- unmarked rank may be marked.
 unfoldable pub markRefused : ℕ → ℕ → List ℕ → Marked
-markRefused number marks table = record { answer = number; marks = marks; table = table; moved = 0 }
+markRefused number marks table = record { answer = number; marks = marks; table = table; moved = nobody }
 
 unfoldable pub marked : (ℕ → ℕ) → ℕ → ℕ → List ℕ → ℕ → Marked
 marked anc n marks table q =

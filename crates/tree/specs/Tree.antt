@@ -7,6 +7,7 @@ use mathlib.Core.List.{List, [], _∷_, _++_}
 use lib.Dec.{eqb, ltb}
 use lib.ListN.{length, getD}
 use Rattle.sets.specs.Sets.{none, has, add, setOf, count, largest, smallest}
+use Rattle.tree.specs.declared.Moved.{Moved}
 
 -- The ancestors of p are floor(p/2^i) for i from 1, up to and including 0; rank 0 has none.
 -- So p > 0 has p / 2 and the ancestors of p / 2. The first number bounds how often p is halved; p itself is enough.
@@ -39,13 +40,24 @@ entry anc n marks p = cond (ltb p n) (parent anc marks p) none
 unfoldable pub fresh : (ℕ → ℕ) → ℕ → ℕ → List ℕ
 fresh anc n marks = row (entry anc n marks) 64
 
--- "Moved" counts the unmarked ranks whose entry changed, after the mark. Entries of marked ranks that pointed at the newly
--- marked one move too but are not counted.
+-- The unmarked ranks whose entry changed, after the mark: the set that request 2026-01 asks for. Entries of marked ranks that pointed
+-- at the newly marked one move too but are not in it.
 unfoldable pub moves : (ℕ → ℕ) → ℕ → ℕ → ℕ → Bool
 moves anc marks q p = not (has (add marks q) p) && not (eqb (parent anc (add marks q) p) (parent anc marks p))
 
-unfoldable pub moved : (ℕ → ℕ) → ℕ → ℕ → ℕ → ℕ
-moved anc n marks q = count (moves anc marks q) n
+-- "Moved" is that set with its size. Where nobody moved, the set is empty and the count 0.
+unfoldable pub sized : ℕ → Moved
+sized w = record { ranks = w; count = count (has w) 64 }
+
+abbrev pub nobody : Moved
+nobody = record { ranks = 0; count = 0 }
+
+unfoldable pub moved : (ℕ → ℕ) → ℕ → ℕ → ℕ → Moved
+moved anc n marks q = sized (setOf (moves anc marks q) n)
+
+-- What theorems say of that set: p is a rank of the group that is unmarked after the mark of q, and its entry ended at q.
+unfoldable pub endedAt : ℕ → ℕ → ℕ → List ℕ → ℕ → Bool
+endedAt n q after before p = ltb p n && not (has after p) && eqb (getD before p 0) q
 
 -- The path from p to its root: the ranks above p, link by link. The first number bounds the links; p's own number is enough,
 -- as each parent is smaller.

@@ -1,9 +1,9 @@
 // Views of the tree: who is whose parent once some ranks are marked dead, and the table of parents, mended at each mark.
 // Entry points for callers are mark and climb; they refuse bad input and require nothing.
 ghost use mathlib.Core.Path.{_≡_};
-ghost use Prim.Native.Nat.{_<_, _≤_};
-ghost use Rattle.tree.specs.Tree.{children, flat, fresh, parent};
-ghost use Rattle.tree.specs.Calls.{climbed, marked, mended, mendedBelow, markRefused, climbing, same, told, wrongSize};
+ghost use Prim.Native.Nat.{_+_, _<_, _≤_};
+ghost use Rattle.tree.specs.Tree.{children, flat, fresh, parent, sized, nobody};
+ghost use Rattle.tree.specs.Calls.{andThen, climbed, marked, mended, mendedBelow, markRefused, climbing, same, told, wrongSize};
 
 const ANCESTORS: [u64; 64] = [
     0x0,
@@ -72,11 +72,17 @@ const ANCESTORS: [u64; 64] = [
     0x8000808b,
 ];
 
-// A view with its table, and how many unmarked ranks the last marking moved.
+// The unmarked ranks that moved, and how many; of several marks the union and the sum.
+pub struct Moved {
+    pub ranks: u64,
+    pub count: u32,
+}
+
+// A view with its table, and what the marking moved.
 pub struct Mended {
     pub marks: u64,
     pub table: [u8; 64],
-    pub moved: u32,
+    pub moved: Moved,
 }
 
 // The answer of mark: a refusal number, or 0 with the new view, its table and moved.
@@ -84,7 +90,7 @@ pub struct Marked {
     pub answer: u32,
     pub marks: u64,
     pub table: [u8; 64],
-    pub moved: u32,
+    pub moved: Moved,
 }
 
 // The answer of climb: the root or the rank reached, with the links climbed; or why nothing was climbed.
@@ -94,6 +100,36 @@ pub enum Climbed {
     WrongSize,
     WrongRank,
     FromMarked(u8),
+}
+
+impl Moved {
+    // Nobody moved.
+    pub fn nobody() -> Moved
+        ensures { λ r. ⌜ r ≡ nobody ⌝ }
+    {
+        Moved { ranks: 0, count: 0 }
+    }
+
+    // These ranks moved, at one mark.
+    fn sized(ranks: u64) -> Moved
+        ensures { λ r. ⌜ r ≡ sized ranks ⌝ }
+    {
+        Moved {
+            ranks,
+            count: sets::size(ranks) as u32,
+        }
+    }
+
+    // Moved by one marking and then another; 64 marks move at most 64 ranks each.
+    fn and_then(self, next: Moved) -> Moved
+        requires { ⌜ self .count + next .count ≤ 4096 ⌝ }
+        ensures { λ r. ⌜ r ≡ andThen self next ⌝ }
+    {
+        Moved {
+            ranks: sets::union(self.ranks, next.ranks),
+            count: self.count + next.count,
+        }
+    }
 }
 
 // The ancestor set of p.
@@ -158,7 +194,7 @@ pub fn mend(n: u8, marks: u64, mut table: [u8; 64], q: u8) -> Mended
         return Mended {
             marks,
             table,
-            moved: 0,
+            moved: Moved::nobody(),
         };
     }
     let after = sets::with(marks, q);
@@ -171,28 +207,28 @@ pub fn mend(n: u8, marks: u64, mut table: [u8; 64], q: u8) -> Mended
         }
         p += 1;
     }
-    let moved = sets::size(sets::minus(changed, after)) as u32;
     Mended {
         marks: after,
         table,
-        moved,
+        moved: Moved::sized(sets::minus(changed, after)),
     }
 }
 
-// Marks every rank below q, ascending; moved is the sum.
+// Marks every rank below q, ascending; moved is the union and the sum over the marks.
 pub fn mend_below(n: u8, mut marks: u64, mut table: [u8; 64], q: u8) -> Mended
     requires { ⌜ n ≤ 64 ⌝ }
     requires { ⌜ q ≤ n ⌝ }
     requires { ⌜ table ≡ fresh flat n marks ⌝ }
     ensures { λ r. ⌜ r ≡ mendedBelow flat n marks q ⌝ }
 {
-    let mut moved: u32 = 0;
+    let mut moved = Moved::nobody();
     let mut k: u8 = 0;
     while k < q {
         let next = mend(n, marks, table, k);
+        let more = next.moved;
         marks = next.marks;
         table = next.table;
-        moved += next.moved;
+        moved = moved.and_then(more);
         k += 1;
     }
     Mended {
@@ -231,7 +267,7 @@ fn mark_refused(answer: u32, marks: u64, table: [u8; 64]) -> Marked
         answer,
         marks,
         table,
-        moved: 0,
+        moved: Moved::nobody(),
     }
 }
 
@@ -254,11 +290,12 @@ pub fn mark(n: u32, marks: u64, table: [u8; 64], q: u32) -> Marked
     }
     let m = mend(size, marks, table, q as u8);
     let mended = m.table;
+    let moved = m.moved;
     Marked {
         answer: 0,
         marks: m.marks,
         table: mended,
-        moved: m.moved,
+        moved,
     }
 }
 

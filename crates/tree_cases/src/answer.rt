@@ -1,4 +1,4 @@
-// What a case prints: `climb NUMBER RANK LINKS`, or `mark NUMBER MARKS MOVED T0 .. T63`.
+// What a case prints: `climb NUMBER RANK LINKS`, `mark NUMBER MARKS COUNT T0 .. T63`, or for a mark asked who moved `who NUMBER COUNT RANKS`.
 use super::script::Reader;
 use libc::STDOUT_FILENO;
 use tree::Climbed;
@@ -77,20 +77,27 @@ fn entries(table: [u8; 64]) {
     }
 }
 
+fn mark(numbers: [u64; 67]) -> Marked {
+    tree::mark(
+        small(numbers, 0),
+        number(numbers, 1),
+        table_of(numbers),
+        small(numbers, 2),
+    )
+}
+
 fn marked(m: Marked) {
-    begun(b"mark", m.answer as u64, m.marks, m.moved as u64);
+    let moved = m.moved;
+    begun(b"mark", m.answer as u64, m.marks, moved.count as u64);
     let table = m.table;
     entries(table);
     text(b"\n");
 }
 
-fn mark(numbers: [u64; 67]) {
-    marked(tree::mark(
-        small(numbers, 0),
-        number(numbers, 1),
-        table_of(numbers),
-        small(numbers, 2),
-    ));
+fn who(m: Marked) {
+    let moved = m.moved;
+    begun(b"who", m.answer as u64, moved.count as u64, moved.ranks);
+    text(b"\n");
 }
 
 pub fn answer(r: Reader) {
@@ -98,7 +105,8 @@ pub fn answer(r: Reader) {
     let letter = r.letter;
     match letter {
         b'c' => climb(numbers),
-        b'm' => mark(numbers),
+        b'm' => marked(mark(numbers)),
+        b'w' => who(mark(numbers)),
         _ => {}
     }
 }

@@ -1,6 +1,7 @@
 // Cases, byte by byte. A line is a word, of which the first letter counts, and numbers with a space before each:
 //   climb N MARKS RANK ALLOWANCE
 //   mark N MARKS RANK T0 .. T63
+//   who N MARKS RANK T0 .. T63
 
 pub struct Reader {
     pub letter: u8,

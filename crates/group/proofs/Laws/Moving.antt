@@ -45,7 +45,7 @@ step-size anc s kind a b = stepped-cases anc s kind a b (λ t. t .group .n ≡ s
 pub event-size : (anc : ℕ → ℕ) (s : State) (kind a b : ℕ) → InOrder anc s → event anc s kind a b .state .group .n ≡ s .group .n
 event-size anc s kind a b o = ap (λ (x : Stepped). x .state .group .n) (event-steps-on anc s kind a b o) ∙ step-size anc s kind a b
 
-table-fresh : (anc : ℕ → ℕ) (s : State) (n i : ℕ) → InOrder anc s → s .group .n ≡ n → i < n → rowAt s i ≡ fresh anc n (rankAt s i .marks)
+pub table-fresh : (anc : ℕ → ℕ) (s : State) (n i : ℕ) → InOrder anc s → s .group .n ≡ n → i < n → rowAt s i ≡ fresh anc n (rankAt s i .marks)
 table-fresh anc s n i o e l = in-order-facts anc s o .member i (omega arith) .table ∙ ap (λ (m : ℕ). fresh anc m (rankAt s i .marks)) e
 
 -- No link ends at a rank that is known to be dead.
@@ -93,7 +93,7 @@ module _ (anc : ℕ → ℕ) (s : State) (o : InOrder anc s) (kind a b : ℕ) (z
       ⊎-elim (λ (q : j ≡ subjectOf s kind a). subst (λ (i : ℕ). rowAt (event anc s kind a b .state) i ≡ rowAt s i) (sym q) (subject-stays e)) (λ (q : j ≡ subjectOf s kind a → ⊥). others-stay j q .1) (eq-or-ne j (subjectOf s kind a))
 
   -- a message that is delivered is in order
-  delivered-in-order : kind ≡ 2 → MessageInOrder (s .group .n) (s .group .dead) (placeAt s a)
+  pub delivered-in-order : kind ≡ 2 → MessageInOrder (s .group .n) (s .group .dead) (placeAt s a)
   delivered-in-order k = facts .message a (clean-place _ _ _ _ _ _ _ _ (step-taken anc s kind a b (event-accepted anc s kind a b o z) .clean) (names-a-place kind k))
 
   -- what is delivered and no ASK is an UP or a DOWN

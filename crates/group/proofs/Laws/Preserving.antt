@@ -12,6 +12,7 @@ use borrow.Author.Tests.{eqb-true, eq-eqb}
 use Rattle.sets.specs.Sets.{has, only, add, minus, below}
 use Rattle.sets.proofs.Laws.Bools.{clash, eq-or-ne, or-cases, same-test}
 use Rattle.sets.proofs.Laws.Members.{ext, has-zero, has-only, has-add, has-add-more, has-add-other, has-below-lt, minus-l, minus-r, minus-i}
+use Rattle.tree.specs.Tree.{nobody}
 use Rattle.rank.specs.declared.Rank.{Rank}
 use Rattle.rank.specs.declared.Message.{Message}
 use Rattle.rank.specs.Sends.{letters, size}
@@ -203,7 +204,7 @@ pub stepped-cases : (anc : ℕ → ℕ) (s : State) (kind a b : ℕ) (P : State 
 unfolding stepped carried refused
 stepped-cases anc s kind a b P same taken = go (eqb (planOf anc s kind a b .answer) 0) refl
   where
-    go : (t : Bool) → eqb (planOf anc s kind a b .answer) 0 ≡ t → P (cond {A = Stepped} t (record { answer = 0; sent = size (planOf anc s kind a b .acted .first) + size (planOf anc s kind a b .acted .second); moved = planOf anc s kind a b .acted .moved; state = applied s a (subjectOf s kind a) (planOf anc s kind a b) }) (record { answer = planOf anc s kind a b .answer; sent = 0; moved = 0; state = s }) .state)
+    go : (t : Bool) → eqb (planOf anc s kind a b .answer) 0 ≡ t → P (cond {A = Stepped} t (record { answer = 0; sent = size (planOf anc s kind a b .acted .first) + size (planOf anc s kind a b .acted .second); moved = planOf anc s kind a b .acted .moved; state = applied s a (subjectOf s kind a) (planOf anc s kind a b) }) (record { answer = planOf anc s kind a b .answer; sent = 0; moved = nobody; state = s }) .state)
     go true e = taken (planOf anc s kind a b) refl (eqb-true (planOf anc s kind a b .answer) 0 e)
     go false e = same
 

@@ -11,7 +11,7 @@ use lib.ListN.{length, getD, set, take, List·getD-eq-default}
 use borrow.Author.Tests.{eq-eqb, ne-eqb, eqb-true}
 use Rattle.sets.specs.Sets.{has, add, count}
 use Rattle.sets.proofs.Laws.Bools.{passes-or-fails, lt-or-le}
-use Rattle.tree.specs.Tree.{flat}
+use Rattle.tree.specs.Tree.{flat, nobody}
 use Rattle.rank.specs.declared.Message.{Message}
 use Rattle.rank.specs.Sends.{letters}
 use Rattle.net.specs.declared.Joined.{Joined}
@@ -169,7 +169,7 @@ step-carries s kind a b p me x y u e z g ex ey eu = rw (← e, ← g, eq-eqb (p 
 
 pub step-refused : (s : State) (kind a b : ℕ) (m : Message) (me : ℕ) (t : List (List ℕ)) (p : Plan) → m ≡ getD (s .group .net) a zeroMessage → me ≡ subject (s .group .n) kind a m → t ≡ s .tables
     → p ≡ planned flat (s .group .n) (s .group .dead) (s .group .count) kind a b m me (getD (s .group .ranks) me zeroRank) (getD t me []) → (p .answer ≡ 0 → ⊥)
-    → _≡_ {A = Stepped} (record { answer = p .answer; sent = 0; moved = 0; state = s }) (stepped flat s kind a b)
+    → _≡_ {A = Stepped} (record { answer = p .answer; sent = 0; moved = nobody; state = s }) (stepped flat s kind a b)
 unfolding refused
 step-refused s kind a b m me t p e g h q z = step-refuses s kind a b p (refused (p .answer) s) (plan-is s kind a b m me t p e g h q) z refl
 

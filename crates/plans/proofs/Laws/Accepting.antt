@@ -9,7 +9,7 @@ use lib.Dec.{eqb, ltb}
 use borrow.Author.Tests.{eqb-true, eqb-false, ltb-false}
 use Rattle.sets.specs.Sets.{has, count}
 use Rattle.sets.proofs.Laws.Bools.{passes-or-fails}
-use Rattle.tree.specs.Tree.{flat}
+use Rattle.tree.specs.Tree.{flat, nobody}
 use Rattle.rank.specs.declared.Rank.{Rank}
 use Rattle.rank.specs.declared.Message.{Message}
 use Rattle.rank.specs.declared.Acted.{Acted}
@@ -79,7 +79,7 @@ planned-refused anc n dead c kind a b m me r row p e z = first (passes-or-fails 
 
 -- and sends and moves nothing
 pub refused-quiet : (anc : ℕ → ℕ) (n dead c kind a b : ℕ) (m : Message) (me : ℕ) (r : Rank) (row : List ℕ) (p : Plan) → p ≡ planned anc n dead c kind a b m me r row → (p .answer ≡ 0 → ⊥)
-    → (count (has (p .acted .first .to)) 64 + count (has (p .acted .second .to)) 64 ≡ 0) × (p .acted .moved ≡ 0)
+    → (count (has (p .acted .first .to)) 64 + count (has (p .acted .second .to)) 64 ≡ 0) × (p .acted .moved ≡ nobody)
 refused-quiet anc n dead c kind a b m me r row p e z = rw (planned-refused anc n dead c kind a b m me r row p e z, silent-size) (refl, refl)
 
 pub step-place : (n dead c kind a b : ℕ) (m : Message) (me : ℕ) (r : Rank) (row : List ℕ) (p : Plan) → p ≡ planned flat n dead c kind a b m me r row → p .answer ≡ 0 → p .leaves ≡ true → a < c

@@ -1,4 +1,4 @@
--- Which deaths a rank knows after what an event has it do, and how many ranks that moves: a notice adds one death, an ASK that is taken every
+-- Which deaths a rank knows after what an event has it do, and which ranks that moves: a notice adds one death, an ASK that is taken every
 -- rank below its sender, and nothing else adds any or moves a rank. Over any ancestor sets. Assumes nothing.
 use mathlib.Core.Path.{_≡_, refl}
 use mathlib.Core.List.{List}
@@ -7,7 +7,7 @@ use Prim.Native.Nat.{ℕ}
 use native.Mathlib.Omega.{arith}
 use Rattle.sets.specs.Sets.{has, add, union, below}
 use Rattle.sets.proofs.Laws.Bools.{clash}
-use Rattle.tree.specs.Tree.{moved}
+use Rattle.tree.specs.Tree.{moved, nobody}
 use Rattle.tree.specs.Calls.{movedBelow}
 use Rattle.rank.specs.declared.Rank.{Rank}
 use Rattle.rank.specs.declared.Message.{Message}
@@ -20,7 +20,7 @@ use Rattle.plans.proofs.Laws.Cases.{Dropped, Undropped, delivered-by, a
 
 -- no death is learnt and no rank moves
 abbrev Calm : Rank → Acted → Type 0
-Calm r a = (a .rank .marks ≡ r .marks) × (a .moved ≡ 0)
+Calm r a = (a .rank .marks ≡ r .marks) × (a .moved ≡ nobody)
 
 module _ (anc : ℕ → ℕ) (n dead b : ℕ) (m : Message) (me : ℕ) (r : Rank) (row : List ℕ) where
   -- ---- a notice

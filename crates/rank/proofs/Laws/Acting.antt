@@ -11,7 +11,8 @@ use borrow.Author.Tests.{eq-eqb, ne-eqb}
 use Rattle.sets.specs.Sets.{none, has, only, add, union, meet, minus}
 use Rattle.sets.proofs.Laws.Bools.{and-not-l, and-not-r}
 use Rattle.sets.proofs.Laws.Members.{minus-minus, minus-none}
-use Rattle.tree.specs.Tree.{parent, children}
+use Rattle.tree.specs.declared.Moved.{Moved}
+use Rattle.tree.specs.Tree.{parent, children, nobody}
 use Rattle.tree.specs.Calls.{mended, mendedBelow}
 use Rattle.tree.specs.declared.Mended.{Mended}
 use Rattle.tree.proofs.Laws.Rows.{fresh-at}
@@ -85,52 +86,52 @@ module _ (anc : ℕ → ℕ) where
       let q : getD row me 0 ≡ parentOf anc me r = row-parent n me r row k in
       rw (e, q) (sym (settled-child n me r p a (λ x. z (q ∙ x))))
 
-  pub settle-returns : (n me : ℕ) (r : Rank) (row : List ℕ) (first : Send) (m : ℕ) (t : Said) → FreshRow anc n me r row → t ≡ settled anc n me r
+  pub settle-returns : (n me : ℕ) (r : Rank) (row : List ℕ) (first : Send) (m : Moved) (t : Said) → FreshRow anc n me r row → t ≡ settled anc n me r
       → _≡_ {A = Acted} (record { rank = t .rank; row = row; first = first; second = t .send; moved = m }) (settling anc n me (saying r first) m)
   unfolding settling saying
   settle-returns n me r row first m t k e = rw (e, k .table, settled-marks anc n me r)
 
   -- ---- the rules
 
-  pub enter-returns : (n me : ℕ) (r : Rank) (w x : ℕ) (s : Send) (a : Acted) → x ≡ combine (r .word) w → s ≡ silent
-      → a ≡ settling anc n me (saying (record { phase = gathering; marks = r .marks; heard = r .heard; awaited = r .awaited; owed = r .owed; word = x; result = r .result }) s) 0
+  pub enter-returns : (n me : ℕ) (r : Rank) (w x : ℕ) (s : Send) (m : Moved) (a : Acted) → x ≡ combine (r .word) w → s ≡ silent → m ≡ nobody
+      → a ≡ settling anc n me (saying (record { phase = gathering; marks = r .marks; heard = r .heard; awaited = r .awaited; owed = r .owed; word = x; result = r .result }) s) m
       → a ≡ entering anc n me w r
   unfolding entering becoming combining
-  enter-returns n me r w x s a e f g = g ∙ rw (e, f)
+  enter-returns n me r w x s m a e f h g = g ∙ rw (e, f, h)
 
-  pub up-decided : (n me : ℕ) (r : Rank) (q x o : ℕ) (s : Send) (a : Acted) → r .phase ≡ decided → o ≡ only q → s ≡ tells (r .result) o → a ≡ settling anc n me (saying r s) 0
+  pub up-decided : (n me : ℕ) (r : Rank) (q x o : ℕ) (s : Send) (m : Moved) (a : Acted) → r .phase ≡ decided → o ≡ only q → s ≡ tells (r .result) o → m ≡ nobody → a ≡ settling anc n me (saying r s) m
       → a ≡ takingUp anc n me q x r
   unfolding takingUp raised inPhase
-  up-decided n me r q x o s a p e f g = g ∙ rw (eq-eqb (r .phase) decided p, f, e)
+  up-decided n me r q x o s m a p e f h g = g ∙ rw (eq-eqb (r .phase) decided p, f, e, h)
 
   -- q joins heard: one fewer is awaited
   fewer-awaited : (n me : ℕ) (r : Rank) (q : ℕ) → r .awaited ≡ awaiting anc n me (r .marks) (r .heard) → minus (r .awaited) (only q) ≡ awaiting anc n me (r .marks) (add (r .heard) q)
   unfolding awaiting
   fewer-awaited n me r q e = ap (λ (w : ℕ). minus w (only q)) e ∙ minus-minus (children anc n (r .marks) me) (r .heard) q
 
-  pub up-undecided : (n me : ℕ) (r : Rank) (q x h v o w y : ℕ) (s : Send) (a : Acted) → r .awaited ≡ awaiting anc n me (r .marks) (r .heard) → (r .phase ≡ decided → ⊥)
-      → h ≡ add (r .heard) q → v ≡ add (r .owed) q → o ≡ only q → w ≡ minus (r .awaited) o → y ≡ combine (r .word) x → s ≡ silent
-      → a ≡ settling anc n me (saying (record { phase = r .phase; marks = r .marks; heard = h; awaited = w; owed = v; word = y; result = r .result }) s) 0
+  pub up-undecided : (n me : ℕ) (r : Rank) (q x h v o w y : ℕ) (s : Send) (m : Moved) (a : Acted) → r .awaited ≡ awaiting anc n me (r .marks) (r .heard) → (r .phase ≡ decided → ⊥)
+      → h ≡ add (r .heard) q → v ≡ add (r .owed) q → o ≡ only q → w ≡ minus (r .awaited) o → y ≡ combine (r .word) x → s ≡ silent → m ≡ nobody
+      → a ≡ settling anc n me (saying (record { phase = r .phase; marks = r .marks; heard = h; awaited = w; owed = v; word = y; result = r .result }) s) m
       → a ≡ takingUp anc n me q x r
   unfolding takingUp raised noting inPhase owing combining hearing
-  up-undecided n me r q x h v o w y s a f p eh ev eo ew ey es g =
+  up-undecided n me r q x h v o w y s m a f p eh ev eo ew ey es em g =
       let e : w ≡ awaiting anc n me (r .marks) (add (r .heard) q) = ew ∙ ap (minus (r .awaited)) eo ∙ fewer-awaited n me r q f in
-      g ∙ rw (ne-eqb (r .phase) decided p, eh, ev, e, ey, es)
+      g ∙ rw (ne-eqb (r .phase) decided p, eh, ev, e, ey, es, em)
 
   pub decide-returns : (n me : ℕ) (r : Rank) (row : List ℕ) (x c u t : ℕ) (s : Send) → c ≡ children anc n (r .marks) me → u ≡ union c (r .owed) → t ≡ minus u (r .marks) → s ≡ tells x t
       → _≡_ {A = Said} (record { rank = record { phase = decided; marks = r .marks; heard = r .heard; awaited = r .awaited; owed = r .owed; word = r .word; result = x }; send = s }) (deciding anc n me x r)
   unfolding deciding saying concluding childrenOf
   decide-returns n me r row x c u t s ec eu et es = rw (es, et, eu, ec)
 
-  pub down-decides : (n me : ℕ) (r : Rank) (row : List ℕ) (x : ℕ) (d : Said) (s : Send) → FreshRow anc n me r row → eqb (r .phase) gathering || eqb (r .phase) waiting ≡ true → d ≡ deciding anc n me x r → s ≡ silent
-      → _≡_ {A = Acted} (record { rank = d .rank; row = row; first = d .send; second = s; moved = 0 }) (takingDown anc n me x r)
+  pub down-decides : (n me : ℕ) (r : Rank) (row : List ℕ) (x : ℕ) (d : Said) (s : Send) (m : Moved) → FreshRow anc n me r row → eqb (r .phase) gathering || eqb (r .phase) waiting ≡ true → d ≡ deciding anc n me x r → s ≡ silent → m ≡ nobody
+      → _≡_ {A = Acted} (record { rank = d .rank; row = row; first = d .send; second = s; moved = m }) (takingDown anc n me x r)
   unfolding takingDown lowered inPhase done deciding saying concluding
-  down-decides n me r row x d s k t e f = rw (t, e, f, k .table)
+  down-decides n me r row x d s m k t e f h = rw (t, e, f, h, k .table)
 
-  pub down-nothing : (n me : ℕ) (r : Rank) (row : List ℕ) (x : ℕ) (s s′ : Send) → FreshRow anc n me r row → eqb (r .phase) gathering || eqb (r .phase) waiting ≡ false → s ≡ silent → s′ ≡ silent
-      → _≡_ {A = Acted} (record { rank = r; row = row; first = s; second = s′; moved = 0 }) (takingDown anc n me x r)
+  pub down-nothing : (n me : ℕ) (r : Rank) (row : List ℕ) (x : ℕ) (s s′ : Send) (m : Moved) → FreshRow anc n me r row → eqb (r .phase) gathering || eqb (r .phase) waiting ≡ false → s ≡ silent → s′ ≡ silent → m ≡ nobody
+      → _≡_ {A = Acted} (record { rank = r; row = row; first = s; second = s′; moved = m }) (takingDown anc n me x r)
   unfolding takingDown lowered inPhase done saying
-  down-nothing n me r row x s s′ k t e f = rw (t, e, f, k .table)
+  down-nothing n me r row x s s′ m k t e f h = rw (t, e, f, h, k .table)
 
   -- ---- a new view
 
@@ -238,10 +239,10 @@ module _ (anc : ℕ → ℕ) where
   pub row-bereaved : (n me q : ℕ) (r v : Rank) (row : List ℕ) (s : Said) → FreshRow anc n me v row → s ≡ bereaved anc n me q r v → FreshRow anc n me (s .rank) row
   row-bereaved n me q r v row s k e = row-said n me v row s k (ap (λ (x : Said). x .rank .marks) e ∙ bereaved-marks anc n me q r v)
 
-  pub notice-again : (n me q : ℕ) (r : Rank) (row : List ℕ) (b : Bool) (s s′ : Send) → FreshRow anc n me r row → b ≡ has (r .marks) q → b ≡ true → s ≡ silent → s′ ≡ silent
-      → _≡_ {A = Acted} (record { rank = r; row = row; first = s; second = s′; moved = 0 }) (noticing anc n me q r)
+  pub notice-again : (n me q : ℕ) (r : Rank) (row : List ℕ) (b : Bool) (s s′ : Send) (m : Moved) → FreshRow anc n me r row → b ≡ has (r .marks) q → b ≡ true → s ≡ silent → s′ ≡ silent → m ≡ nobody
+      → _≡_ {A = Acted} (record { rank = r; row = row; first = s; second = s′; moved = m }) (noticing anc n me q r)
   unfolding noticing done saying
-  notice-again n me q r row b s s′ k e t f g = rw (sym e ∙ t, f, g, k .table)
+  notice-again n me q r row b s s′ m k e t f g h = rw (sym e ∙ t, f, g, h, k .table)
 
   pub notice-returns : (n me q : ℕ) (r v : Rank) (b : Bool) (m : Mended) (s : Said) (a : Acted) → b ≡ has (r .marks) q → b ≡ false → m ≡ mended anc n (r .marks) q → v ≡ viewing anc n me (m .marks) r
       → s ≡ bereaved anc n me q r v → a ≡ settling anc n me (saying (s .rank) (s .send)) (m .moved) → a ≡ noticing anc n me q r

@@ -10,7 +10,8 @@ use borrow.Author.Tests.{eqb-true, ne-eqb}
 use Rattle.sets.specs.Sets.{none, has, only, add, union, meet, minus, below}
 use Rattle.sets.proofs.Laws.Bools.{passes-or-fails, clash, fails, lt-or-le, or-none, or-cases, and-l, and-not-l}
 use Rattle.sets.proofs.Laws.Members.{has-zero, has-only, add-union, has-add-more, has-union, has-meet, minus-l, minus-r, has-below-ge, has-minus, add-again}
-use Rattle.tree.specs.Tree.{parent, children, fresh, moved}
+use Rattle.tree.specs.declared.Moved.{Moved}
+use Rattle.tree.specs.Tree.{parent, children, fresh, moved, nobody}
 use Rattle.tree.specs.Calls.{movedBelow}
 use Rattle.tree.proofs.Laws.Parents.{parent-lt, no-parent, no-parent-all, has-parent, parent-stays, marked-high}
 use Rattle.tree.proofs.Laws.Children.{child-o, child-gt}
@@ -131,13 +132,13 @@ module _ (anc : ℕ → ℕ) (n me : ℕ) (small : n ≤ 64) (own : me < n) wher
         parent-posted r r e,
       ))
 
-  settling-in-order : (s : Said) (m : ℕ) → ToSettle anc n me (s .rank) → Posted n me (s .rank .marks) (s .send) → ActedInOrder anc n me (s .rank .marks) (settling anc n me s m)
+  settling-in-order : (s : Said) (m : Moved) → ToSettle anc n me (s .rank) → Posted n me (s .rank .marks) (s .send) → ActedInOrder anc n me (s .rank .marks) (settling anc n me s m)
   unfolding settling
   settling-in-order s m f p =
       let t : Settles (s .rank) (settled anc n me (s .rank)) = settles (s .rank) f in
       record { in-order = t .0; marks-are = t .1; row-is = ap (fresh anc n) (t .1); first-posted = p; second-posted = t .2 }
 
-  done-in-order : (s : Said) (m : ℕ) → RankInOrder anc n me (s .rank) → Posted n me (s .rank .marks) (s .send) → ActedInOrder anc n me (s .rank .marks) (done anc n me s m)
+  done-in-order : (s : Said) (m : Moved) → RankInOrder anc n me (s .rank) → Posted n me (s .rank .marks) (s .send) → ActedInOrder anc n me (s .rank .marks) (done anc n me s m)
   unfolding done
   done-in-order s m f p = record { in-order = f; marks-are = refl; row-is = refl; first-posted = p; second-posted = silent-posted (s .rank .marks) }
 
@@ -146,7 +147,7 @@ module _ (anc : ℕ → ℕ) (n me : ℕ) (small : n ≤ 64) (own : me < n) wher
   pub enter-in-order : (w : ℕ) (r : Rank) → RankInOrder anc n me r → r .phase ≡ outside → ActedInOrder anc n me (r .marks) (entering anc n me w r)
   unfolding entering saying becoming combining
   enter-in-order w r o p =
-      settling-in-order (saying (becoming gathering (combining w r)) silent) 0
+      settling-in-order (saying (becoming gathering (combining w r)) silent) nobody
       (record { marks-in = o .to-settle .marks-in; heard-in = o .to-settle .heard-in; owed-in = o .to-settle .owed-in; awaits = o .to-settle .awaits; waits = λ e. absurd (omega arith); unless = λ e. o .to-settle .unless (λ x. omega arith); known = omega arith })
       (silent-posted (r .marks))
 
@@ -154,13 +155,13 @@ module _ (anc : ℕ → ℕ) (n me : ℕ) (small : n ≤ 64) (own : me < n) wher
   abbrev Leaves : ℕ → Said → Type 0
   Leaves marks s = ToSettle anc n me (s .rank) × (s .rank .marks ≡ marks) × Posted n me marks (s .send)
 
-  leaves-in-order : (marks : ℕ) (s : Said) (m : ℕ) → Leaves marks s → ActedInOrder anc n me marks (settling anc n me s m)
+  leaves-in-order : (marks : ℕ) (s : Said) (m : Moved) → Leaves marks s → ActedInOrder anc n me marks (settling anc n me s m)
   leaves-in-order marks s m l = subst (λ (x : ℕ). ActedInOrder anc n me x (settling anc n me s m)) (l .1) (settling-in-order s m (l .0) (subst (λ (x : ℕ). Posted n me x (s .send)) (sym (l .1)) (l .2)))
 
   pub up-in-order : (q x : ℕ) (r : Rank) → RankInOrder anc n me r → q < n → (q ≡ me → ⊥) → ActedInOrder anc n me (r .marks) (takingUp anc n me q x r)
   unfolding takingUp noting saying owing combining hearing parentOf
   up-in-order q x r o l d =
-      leaves-in-order (r .marks) (raised anc n me q x r) 0
+      leaves-in-order (r .marks) (raised anc n me q x r) nobody
       (raised-by anc n me (Leaves (r .marks)) q x r
       (λ e. (o .to-settle, refl, tells-posted (r .marks) (r .result) (only q) (within-only n me q l d)))
       (λ e. (
@@ -173,8 +174,8 @@ module _ (anc : ℕ → ℕ) (n me : ℕ) (small : n ≤ 64) (own : me < n) wher
   unfolding takingDown saying deciding concluding
   down-in-order x r o =
       let t : Settles r (lowered anc n me x r) = lowered-by anc n me (Settles r) x r (λ e. (deciding-in-order x r (o .to-settle), refl, deciding-posted x r (o .to-settle))) (λ e f. (o, refl, silent-posted (r .marks))) in
-      subst (λ (m : ℕ). ActedInOrder anc n me m (done anc n me (lowered anc n me x r) 0)) (t .1)
-      (done-in-order (lowered anc n me x r) 0 (t .0) (subst (λ (m : ℕ). Posted n me m (lowered anc n me x r .send)) (sym (t .1)) (t .2)))
+      subst (λ (m : ℕ). ActedInOrder anc n me m (done anc n me (lowered anc n me x r) nobody)) (t .1)
+      (done-in-order (lowered anc n me x r) nobody (t .0) (subst (λ (m : ℕ). Posted n me m (lowered anc n me x r .send)) (sym (t .1)) (t .2)))
 
   pub ask-in-order : (q : ℕ) (r : Rank) → RankInOrder anc n me r → q < me → has (r .marks) q ≡ false → ActedInOrder anc n me (union (r .marks) (below q)) (takingAsk anc n me q r)
   unfolding takingAsk saying owing viewing parentOf
@@ -205,7 +206,7 @@ module _ (anc : ℕ → ℕ) (n me : ℕ) (small : n ≤ 64) (own : me < n) wher
       owes : ToSettle anc n me (owing q v)
       owes = record { marks-in = to-settle .marks-in; heard-in = to-settle .heard-in; owed-in = within-add n me (r .owed) q (o .to-settle .owed-in) (omega arith) (λ x. omega arith); awaits = refl; waits = to-settle .waits; unless = to-settle .unless; known = to-settle .known }
 
-  notice-again : (q : ℕ) (r : Rank) → has (r .marks) q ≡ true → noticing anc n me q r ≡ done anc n me (saying r silent) 0
+  notice-again : (q : ℕ) (r : Rank) → has (r .marks) q ≡ true → noticing anc n me q r ≡ done anc n me (saying r silent) nobody
   unfolding noticing
   notice-again q r e = rw e
 
@@ -249,7 +250,7 @@ module _ (anc : ℕ → ℕ) (n me : ℕ) (small : n ≤ 64) (own : me < n) wher
   notice-in-order q r o l d = ⊎-elim again new (passes-or-fails (has (r .marks) q))
     where
       again : has (r .marks) q ≡ true → ActedInOrder anc n me (add (r .marks) q) (noticing anc n me q r)
-      again e = rw (notice-again q r e, add-again (r .marks) q e) (done-in-order (saying r silent) 0 o (silent-posted (r .marks)))
+      again e = rw (notice-again q r e, add-again (r .marks) q e) (done-in-order (saying r silent) nobody o (silent-posted (r .marks)))
 
       new : has (r .marks) q ≡ false → ActedInOrder anc n me (add (r .marks) q) (noticing anc n me q r)
       new e = rw (notice-new q r e) (leaves-in-order (add (r .marks) q) (bereaved anc n me q r (viewing anc n me (add (r .marks) q) r)) (moved anc n (r .marks) q) (bereaved-leaves q r o l d))
@@ -324,14 +325,14 @@ module _ (anc : ℕ → ℕ) (n me : ℕ) where
       (λ p a e. open-phase r (concluding (r .word) r) (λ x. omega arith) (λ x. omega arith) (λ x. omega arith))
       (λ p a e. open-phase r (becoming waiting r) (λ x. omega arith) (λ x. omega arith) (λ x. omega arith))
 
-  settling-steady : (r : Rank) (s : Said) (m : ℕ) → Becomes r s → Steady r (settling anc n me s m .rank)
+  settling-steady : (r : Rank) (s : Said) (m : Moved) → Becomes r s → Steady r (settling anc n me s m .rank)
   unfolding settling
   settling-steady r s m h = steady-trans r (s .rank) (settled anc n me (s .rank) .rank) h (settled-steady (s .rank))
 
   pub up-steady : (q x : ℕ) (r : Rank) → Steady r (takingUp anc n me q x r .rank)
   unfolding takingUp noting saying owing combining hearing
   up-steady q x r =
-      settling-steady r (raised anc n me q x r) 0
+      settling-steady r (raised anc n me q x r) nobody
       (raised-by anc n me (Becomes r) q x r (λ e. same-phase r r refl refl) (λ e. same-phase r (noting anc n me q x r) refl refl))
 
   pub down-steady : (x : ℕ) (r : Rank) → Steady r (takingDown anc n me x r .rank)
@@ -369,6 +370,6 @@ module _ (anc : ℕ → ℕ) (n me : ℕ) where
       v : Rank
       v = viewing anc n me (add (r .marks) q) r
 
-      go : (b : Bool) → Steady r (cond b (done anc n me (saying r silent) 0) (settling anc n me (bereaved anc n me q r v) (moved anc n (r .marks) q)) .rank)
+      go : (b : Bool) → Steady r (cond b (done anc n me (saying r silent) nobody) (settling anc n me (bereaved anc n me q r v) (moved anc n (r .marks) q)) .rank)
       go true = same-phase r r refl refl
       go false = settling-steady r (bereaved anc n me q r v) (moved anc n (r .marks) q) (bereaved-steady q r)

@@ -1,4 +1,4 @@
--- What each rule makes of the deaths that a rank knows, and what it counts as moved: a notice adds one death, an ASK every rank below its
+-- What each rule makes of the deaths that a rank knows, and what it answers as moved: a notice adds one death, an ASK every rank below its
 -- sender; the other rules add none and move nothing. Over any ancestor sets, of any rank. Assumes nothing.
 use mathlib.Core.Path.{_≡_, refl, sym, _∙_}
 use mathlib.Core.Bool.{true, false}
@@ -7,7 +7,8 @@ use Prim.Native.Nat.{ℕ}
 use Rattle.sets.specs.Sets.{has, add, union, below}
 use Rattle.sets.proofs.Laws.Bools.{passes-or-fails}
 use Rattle.sets.proofs.Laws.Members.{add-again}
-use Rattle.tree.specs.Tree.{moved}
+use Rattle.tree.specs.declared.Moved.{Moved}
+use Rattle.tree.specs.Tree.{moved, nobody}
 use Rattle.tree.specs.Calls.{movedBelow}
 use Rattle.tree.proofs.Laws.Mending.{moved-again}
 use Rattle.rank.specs.declared.Rank.{Rank}
@@ -27,7 +28,7 @@ module _ (anc : ℕ → ℕ) (n me : ℕ) where
   unfolding saying becoming deciding concluding
   settled-marks r = settled-by anc n me (Keeps (r .marks)) r (λ h. refl) (λ p a e. refl) (λ p a e. refl)
 
-  settling-marks : (s : Said) (m marks : ℕ) → Keeps marks s → settling anc n me s m .rank .marks ≡ marks
+  settling-marks : (s : Said) (m : Moved) (marks : ℕ) → Keeps marks s → settling anc n me s m .rank .marks ≡ marks
   unfolding settling
   settling-marks s m marks e = settled-marks (s .rank) ∙ e
 
@@ -35,11 +36,11 @@ module _ (anc : ℕ → ℕ) (n me : ℕ) where
 
   pub enter-marks : (w : ℕ) (r : Rank) → entering anc n me w r .rank .marks ≡ r .marks
   unfolding entering saying becoming combining
-  enter-marks w r = settling-marks (saying (becoming gathering (combining w r)) silent) 0 (r .marks) refl
+  enter-marks w r = settling-marks (saying (becoming gathering (combining w r)) silent) nobody (r .marks) refl
 
   pub up-marks : (q x : ℕ) (r : Rank) → takingUp anc n me q x r .rank .marks ≡ r .marks
   unfolding takingUp noting saying owing combining hearing
-  up-marks q x r = settling-marks (raised anc n me q x r) 0 (r .marks) (raised-by anc n me (Keeps (r .marks)) q x r (λ e. refl) (λ e. refl))
+  up-marks q x r = settling-marks (raised anc n me q x r) nobody (r .marks) (raised-by anc n me (Keeps (r .marks)) q x r (λ e. refl) (λ e. refl))
 
   pub down-marks : (x : ℕ) (r : Rank) → takingDown anc n me x r .rank .marks ≡ r .marks
   unfolding takingDown done saying deciding concluding
@@ -78,19 +79,19 @@ module _ (anc : ℕ → ℕ) (n me : ℕ) where
 
   -- ---- moved
 
-  pub enter-moved : (w : ℕ) (r : Rank) → entering anc n me w r .moved ≡ 0
+  pub enter-moved : (w : ℕ) (r : Rank) → entering anc n me w r .moved ≡ nobody
   unfolding entering settling
   enter-moved w r = refl
 
-  pub up-moved : (q x : ℕ) (r : Rank) → takingUp anc n me q x r .moved ≡ 0
+  pub up-moved : (q x : ℕ) (r : Rank) → takingUp anc n me q x r .moved ≡ nobody
   unfolding takingUp settling
   up-moved q x r = refl
 
-  pub down-moved : (x : ℕ) (r : Rank) → takingDown anc n me x r .moved ≡ 0
+  pub down-moved : (x : ℕ) (r : Rank) → takingDown anc n me x r .moved ≡ nobody
   unfolding takingDown done
   down-moved x r = refl
 
-  -- an ASK: the sum over its marks
+  -- an ASK: the union and the sum over its marks
   pub ask-moved : (q : ℕ) (r : Rank) → takingAsk anc n me q r .moved ≡ movedBelow anc n (r .marks) q
   unfolding takingAsk settling
   ask-moved q r = refl

@@ -7,7 +7,7 @@ use native.Mathlib.Omega.{arith}
 use Rattle.sets.specs.Sets.{none, has, only, add, union, meet, minus, below}
 use Rattle.sets.proofs.Laws.Bools.{clash}
 use Rattle.sets.proofs.Laws.Members.{has-zero}
-use Rattle.tree.specs.Tree.{parent, children, moved}
+use Rattle.tree.specs.Tree.{parent, children, moved, nobody}
 use Rattle.tree.specs.Calls.{movedBelow}
 use Rattle.tree.proofs.Laws.Parents.{has-parent, marked-high}
 use Rattle.rank.specs.declared.Rank.{Rank}
@@ -31,7 +31,7 @@ ActedSpeech anc n me kind q v Entry r a = Speech anc n me kind q v Entry r (a .r
 module _ (anc : ℕ → ℕ) (n me : ℕ) (small : n ≤ 64) (own : me < n) (Entry : Type 0) where
   pub enter-speech : Entry → (w : ℕ) (r : Rank) → RankInOrder anc n me r → r .phase ≡ outside → ActedSpeech anc n me 0 0 w Entry r (entering anc n me w r)
   unfolding entering saying becoming combining
-  enter-speech i w r o e = settling-speech anc n me 0 0 w Entry r (saying v silent) 0 (part, o .to-settle .awaits)
+  enter-speech i w r o e = settling-speech anc n me 0 0 w Entry r (saying v silent) nobody (part, o .to-settle .awaits)
     where
       v : Rank
       v = becoming gathering (combining w r)
@@ -42,7 +42,7 @@ module _ (anc : ℕ → ℕ) (n me : ℕ) (small : n ≤ 64) (own : me < n) (Ent
   pub up-speech : (q x : ℕ) (r : Rank) → RankInOrder anc n me r → ActedSpeech anc n me up q x Entry r (takingUp anc n me q x r)
   unfolding takingUp noting saying owing combining hearing
   up-speech q x r o =
-      settling-speech anc n me up q x Entry r (raised anc n me q x r) 0
+      settling-speech anc n me up q x Entry r (raised anc n me q x r) nobody
       (raised-by anc n me (Part anc n me up q x Entry r) q x r
       (λ e. (keeps anc n me up q x Entry r r (tells (r .result) (only q)) refl refl (tells-sent anc n me up q x Entry r e (inl refl)) (λ y h. inl h) (unchanged anc n me up q x Entry r r (λ d. d) refl (λ y h. h)), o .to-settle .awaits))
       (λ e. (
@@ -131,7 +131,7 @@ module _ (anc : ℕ → ℕ) (n me : ℕ) (small : n ≤ 64) (own : me < n) (Ent
           (λ e z h. (keeps anc n me 0 0 v Entry r t (asks (meet (children anc n after me) (children anc n (r .marks) q))) refl refl (asks-sent anc n me 0 0 v Entry t (meet (children anc n after me) (children anc n (r .marks) q))) (λ x k. inl k) same, refl))
           (λ g h. (keeps anc n me 0 0 v Entry r t silent refl refl (silent-sent anc n me 0 0 v Entry t) (λ x k. inl k) same, refl))
 
-      go : (b : Bool) → ActedSpeech anc n me 0 0 v Entry r (cond b (done anc n me (saying r silent) 0) (settling anc n me (bereaved anc n me q r t) (moved anc n (r .marks) q)))
+      go : (b : Bool) → ActedSpeech anc n me 0 0 v Entry r (cond b (done anc n me (saying r silent) nobody) (settling anc n me (bereaved anc n me q r t) (moved anc n (r .marks) q)))
       go true = rests anc n me 0 0 v Entry r r silent (keeps anc n me 0 0 v Entry r r silent refl refl (silent-sent anc n me 0 0 v Entry r) (λ x h. inl h) (unchanged anc n me 0 0 v Entry r r (λ e. e) refl (λ y h. h)))
       go false = settling-speech anc n me 0 0 v Entry r (bereaved anc n me q r t) (moved anc n (r .marks) q) part
 

@@ -9,7 +9,7 @@ use borrow.Author.Tests.{eqb-true, eq-eqb}
 use Rattle.sets.specs.Sets.{none, has, only, add, union, meet, minus, below}
 use Rattle.sets.proofs.Laws.Bools.{clash, and-i, or-cases, passes, and-l, not-i}
 use Rattle.sets.proofs.Laws.Members.{has-zero, has-meet, has-add, has-add-same, has-add-more, has-add-less}
-use Rattle.tree.specs.Tree.{parent, children, moved}
+use Rattle.tree.specs.Tree.{parent, children, moved, nobody}
 use Rattle.tree.specs.Relations.{Ancestry}
 use Rattle.tree.specs.Calls.{movedBelow}
 use Rattle.tree.proofs.Laws.Parents.{has-parent, parent-stays, parent-below, marked-more}
@@ -48,7 +48,7 @@ module _ (anc : ℕ → ℕ) (n me : ℕ) where
 module _ (anc : ℕ → ℕ) (tree : Ancestry anc) (n me : ℕ) (small : n ≤ 64) (own : me < n) where
   pub enter-turn : (w : ℕ) (r : Rank) → RankInOrder anc n me r → r .phase ≡ outside → ActedTurn anc n me 0 0 r (entering anc n me w r)
   unfolding entering saying becoming combining
-  enter-turn w r o e = settling-turn anc n me 0 0 r (saying v silent) 0 (omega arith) (turn, o .to-settle .awaits)
+  enter-turn w r o e = settling-turn anc n me 0 0 r (saying v silent) nobody (omega arith) (turn, o .to-settle .awaits)
     where
       v : Rank
       v = becoming gathering (combining w r)
@@ -78,7 +78,7 @@ module _ (anc : ℕ → ℕ) (tree : Ancestry anc) (n me : ℕ) (small : n ≤ 6
   pub up-turn : (q x : ℕ) (r : Rank) → RankInOrder anc n me r → ActedTurn anc n me up q r (takingUp anc n me q x r)
   unfolding takingUp noting saying owing combining hearing tells
   up-turn q x r o =
-      settling-turn anc n me up q r (raised anc n me q x r) 0 (omega arith)
+      settling-turn anc n me up q r (raised anc n me q x r) nobody (omega arith)
       (raised-by anc n me (Part anc n me up q r) q x r
       (λ e. (
         stays anc n me up q r r (tells (r .result) (only q)) refl (λ k h. h) (λ y h. inl h) (λ y h. h) (λ y h. h) (tells-fits r (r .result) (only q) e)
@@ -252,7 +252,7 @@ module _ (anc : ℕ → ℕ) (tree : Ancestry anc) (n me : ℕ) (small : n ≤ 6
       v : Rank
       v = viewing anc n me (add (r .marks) q) r
 
-      go : (b : Bool) → ActedTurn anc n me 0 0 r (cond b (done anc n me (saying r silent) 0) (settling anc n me (bereaved anc n me q r v) (moved anc n (r .marks) q)))
+      go : (b : Bool) → ActedTurn anc n me 0 0 r (cond b (done anc n me (saying r silent) nobody) (settling anc n me (bereaved anc n me q r v) (moved anc n (r .marks) q)))
       go true = stays anc n me 0 0 r r silent refl (λ k h. h) (λ y h. inl h) (λ y h. h) (λ y h. h) (silent-fits r) (λ e z c k. inl k) (λ y. inl refl) (takes-none anc me 0 r r silent)
       go false = settling-turn anc n me 0 0 r (bereaved anc n me q r v) (moved anc n (r .marks) q) (omega arith) (bereaved-part q r o l d)
 

@@ -9,6 +9,7 @@ use borrow.Author.Tests.{eqb-true}
 use Rattle.sets.specs.Sets.{none, has, only, add, union, minus}
 use Rattle.sets.proofs.Laws.Bools.{clash, or-cases}
 use Rattle.sets.proofs.Laws.Members.{has-zero, has-only, has-union, has-add, minus-l}
+use Rattle.tree.specs.declared.Moved.{Moved}
 use Rattle.tree.specs.Tree.{parent, children}
 use Rattle.rank.specs.declared.Rank.{Rank}
 use Rattle.rank.specs.declared.Send.{Send}
@@ -151,7 +152,7 @@ module _ (anc : ℕ → ℕ) (n me kind q v : ℕ) (Entry : Type 0) where
   abbrev pub Part : Rank → Said → Type 0
   Part r s = Spoken r (s .rank) (s .send) × (s .rank .awaited ≡ awaiting anc n me (s .rank .marks) (s .rank .heard))
 
-  pub settling-speech : (r : Rank) (s : Said) (m : ℕ) → Part r s → Speech anc n me kind q v Entry r (settling anc n me s m .rank) (settling anc n me s m .first) (settling anc n me s m .second)
+  pub settling-speech : (r : Rank) (s : Said) (m : Moved) → Part r s → Speech anc n me kind q v Entry r (settling anc n me s m .rank) (settling anc n me s m .first) (settling anc n me s m .second)
   unfolding settling saying parentOf
   settling-speech r s m t =
       settled-by anc n me (λ (x : Said). Speech anc n me kind q v Entry r (x .rank) (s .send) (x .send)) (s .rank)

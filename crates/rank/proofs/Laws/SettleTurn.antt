@@ -8,6 +8,7 @@ use borrow.Author.Tests.{eq-eqb}
 use Rattle.sets.specs.Sets.{none, has, only, union, minus}
 use Rattle.sets.proofs.Laws.Bools.{clash, or-r}
 use Rattle.sets.proofs.Laws.Members.{has-zero, has-only, has-union, minus-i, minus-not}
+use Rattle.tree.specs.declared.Moved.{Moved}
 use Rattle.tree.specs.Tree.{parent, children}
 use Rattle.tree.proofs.Laws.Parents.{no-parent, no-parent-all}
 use Rattle.rank.specs.declared.Rank.{Rank}
@@ -191,6 +192,6 @@ module _ (anc : ℕ → ℕ) (n me : ℕ) where
       (λ p a e. decides-turn kind q r (s .rank) (s .send) (t .0) (t .1) p a e)
       (λ p a e. reports-turn kind q r (s .rank) (s .send) (t .0) (t .1) p a m e)
 
-  pub settling-turn : (kind q : ℕ) (r : Rank) (s : Said) (m : ℕ) → me ≤ none → Part kind q r s → ActedTurn anc n me kind q r (settling anc n me s m)
+  pub settling-turn : (kind q : ℕ) (r : Rank) (s : Said) (m : Moved) → me ≤ none → Part kind q r s → ActedTurn anc n me kind q r (settling anc n me s m)
   unfolding settling
   settling-turn kind q r s m b t = settled-turn kind q r s b t

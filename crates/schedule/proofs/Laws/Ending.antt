@@ -30,15 +30,15 @@ pub played-in-order : (file : List ℕ) (left k : ℕ) (s : State) (out : List �
 unfolding played stepAt
 played-in-order file zero k s out o = o
 played-in-order file (suc left) k s out o =
-    played-in-order file left (k + 1) (stepAt flat file k s .state) (written out k (stepAt flat file k s .answer) (stepAt flat file k s .sent) (stepAt flat file k s .moved))
+    played-in-order file left (k + 1) (stepAt flat file k s .state) (written out k (stepAt flat file k s .answer) (stepAt flat file k s .sent) (stepAt flat file k s .moved .count))
     (step-keeps-order flat s (eventAt file k .kind) (eventAt file k .a) (eventAt file k .b) o)
 
 length-played : (file : List ℕ) (left k : ℕ) (s : State) (out : List ℕ) → length (played flat file left k s out .answers) ≡ length out
 unfolding played
 length-played file zero k s out = refl
 length-played file (suc left) k s out =
-    length-played file left (k + 1) (stepAt flat file k s .state) (written out k (stepAt flat file k s .answer) (stepAt flat file k s .sent) (stepAt flat file k s .moved))
-    ∙ written-long out k (stepAt flat file k s .answer) (stepAt flat file k s .sent) (stepAt flat file k s .moved)
+    length-played file left (k + 1) (stepAt flat file k s .state) (written out k (stepAt flat file k s .answer) (stepAt flat file k s .sent) (stepAt flat file k s .moved .count))
+    ∙ written-long out k (stepAt flat file k s .answer) (stepAt flat file k s .sent) (stepAt flat file k s .moved .count)
 
 -- A run is accepted only with a good header and a slice that is long enough.
 pub record Whole (file out : List ℕ) (n events : ℕ) : Type 0 where

@@ -6,7 +6,7 @@ use Prim.Native.Nat.{ℕ, suc, _+_, _*_, _-_, _≤_, _<_}
 use native.Mathlib.Omega.{arith}
 use lib.ListN.{length, getD, set, take, length-set}
 use Rattle.sets.specs.Sets.{add}
-use Rattle.tree.specs.Tree.{flat}
+use Rattle.tree.specs.Tree.{flat, nobody}
 use Rattle.rank.specs.declared.Rank.{Rank}
 use Rattle.rank.specs.declared.Message.{Message}
 use Rattle.rank.specs.Sends.{size}
@@ -54,19 +54,19 @@ written-long out k x y z = length-set (set (set out (3 * k) x) (3 * k + 1) y) (3
 
 -- One event more.
 going-on : (file : List ℕ) (total : ℕ) (s₀ : State) (out₀ : List ℕ) (s : State) (out : List ℕ) (k : ℕ) (u : Stepped) → Going file total s₀ out₀ s out k → k < total → u ≡ stepAt flat file k s
-    → Going file total s₀ out₀ (u .state) (written out k (u .answer) (u .sent) (u .moved)) (k + 1)
+    → Going file total s₀ out₀ (u .state) (written out k (u .answer) (u .sent) (u .moved .count)) (k + 1)
 unfolding stepAt played
 going-on file total s₀ out₀ s out k u g l e =
     record {
       file-long = g .file-long;
-      room = omega (arith, g .room, written-long out k (u .answer) (u .sent) (u .moved));
+      room = omega (arith, g .room, written-long out k (u .answer) (u .sent) (u .moved .count));
       within = omega arith;
-      kept = written-long out k (u .answer) (u .sent) (u .moved) ∙ g .kept;
+      kept = written-long out k (u .answer) (u .sent) (u .moved .count) ∙ g .kept;
       in-order = subst (λ (x : Stepped). InOrder flat (x .state)) (sym e) (step-keeps-order flat s (eventAt file k .kind) (eventAt file k .a) (eventAt file k .b) (g .in-order));
       same-end = next (total - (k + 1)) (omega arith) ∙ g .same-end;
     }
   where
-    next : (left : ℕ) → total - k ≡ suc left → played flat file (total - (k + 1)) (k + 1) (u .state) (written out k (u .answer) (u .sent) (u .moved)) ≡ played flat file (total - k) k s out
+    next : (left : ℕ) → total - k ≡ suc left → played flat file (total - (k + 1)) (k + 1) (u .state) (written out k (u .answer) (u .sent) (u .moved .count)) ≡ played flat file (total - k) k s out
     next left h =
         let p : total - (k + 1) ≡ left = omega arith in
         rw (p, h, e)
@@ -99,18 +99,18 @@ going-count file total s₀ out₀ n dead c ranks net tables out k g = step-coun
 
 pub going-refused : (file : List ℕ) (total : ℕ) (s₀ : State) (out₀ : List ℕ) (n dead c : ℕ) (ranks : List Rank) (net : List Message) (tables : List (List ℕ)) (out : List ℕ) (k : ℕ) (e : Event) (m : Message) (me : ℕ) (p : Plan) (v : List ℕ)
     → Going file total s₀ out₀ (held n dead c ranks net tables) out k → k < total → e ≡ eventAt file k → m ≡ getD net (e .a) zeroMessage → me ≡ subject n (e .kind) (e .a) m
-    → p ≡ planned flat n dead c (e .kind) (e .a) (e .b) m me (getD ranks me zeroRank) (getD tables me []) → v ≡ written out k (p .answer) (size (p .acted .first) + size (p .acted .second)) (p .acted .moved) → (p .answer ≡ 0 → ⊥)
+    → p ≡ planned flat n dead c (e .kind) (e .a) (e .b) m me (getD ranks me zeroRank) (getD tables me []) → v ≡ written out k (p .answer) (size (p .acted .first) + size (p .acted .second)) (p .acted .moved .count) → (p .answer ≡ 0 → ⊥)
     → Going file total s₀ out₀ (held n dead c ranks net tables) v (k + 1)
 unfolding stepAt
 going-refused file total s₀ out₀ n dead c ranks net tables out k e m me p v g l ee em eg ep ev z =
     let q = refused-quiet flat n dead c (e .kind) (e .a) (e .b) m me (getD ranks me zeroRank) (getD tables me []) p ep z in
     rw (ev, q .0, q .1)
-    (going-on file total s₀ out₀ (held n dead c ranks net tables) out k (record { answer = p .answer; sent = 0; moved = 0; state = held n dead c ranks net tables }) g l
+    (going-on file total s₀ out₀ (held n dead c ranks net tables) out k (record { answer = p .answer; sent = 0; moved = nobody; state = held n dead c ranks net tables }) g l
     (step-refused (held n dead c ranks net tables) (e .kind) (e .a) (e .b) m me tables p em eg refl ep z ∙ rw ee))
 
 pub going-accepted : (file : List ℕ) (total : ℕ) (s₀ : State) (out₀ : List ℕ) (n dead c : ℕ) (ranks : List Rank) (net : List Message) (tables : List (List ℕ)) (out : List ℕ) (k : ℕ) (e : Event) (m : Message) (me : ℕ) (p : Plan) (v : List ℕ) (j : Joined) (d : ℕ)
     → Going file total s₀ out₀ (held n dead c ranks net tables) out k → k < total → e ≡ eventAt file k → m ≡ getD net (e .a) zeroMessage → me ≡ subject n (e .kind) (e .a) m
-    → p ≡ planned flat n dead c (e .kind) (e .a) (e .b) m me (getD ranks me zeroRank) (getD tables me []) → v ≡ written out k (p .answer) (size (p .acted .first) + size (p .acted .second)) (p .acted .moved) → p .answer ≡ 0
+    → p ≡ planned flat n dead c (e .kind) (e .a) (e .b) m me (getD ranks me zeroRank) (getD tables me []) → v ≡ written out k (p .answer) (size (p .acted .first) + size (p .acted .second)) (p .acted .moved .count) → p .answer ≡ 0
     → j ≡ placed (posted (take c net) (e .a) me p) → d ≡ cond (p .dies) (add dead me) dead
     → Going file total s₀ out₀ (held n d (j .count) (set ranks me (p .acted .rank)) (j .net) (set tables me (p .acted .row))) v (k + 1)
 unfolding stepAt

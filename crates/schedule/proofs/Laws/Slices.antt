@@ -55,7 +55,7 @@ unfolding played
 states-agree file zero k s a b = refl
 states-agree file (suc left) k s a b =
     let r = stepAt flat file k s in
-    states-agree file left (k + 1) (r .state) (written a k (r .answer) (r .sent) (r .moved)) (written b k (r .answer) (r .sent) (r .moved))
+    states-agree file left (k + 1) (r .state) (written a k (r .answer) (r .sent) (r .moved .count)) (written b k (r .answer) (r .sent) (r .moved .count))
 
 -- Every event writes its three numbers.
 answers-agree : (file : List ℕ) (left k : ℕ) (s : State) (a b : List ℕ) → 3 * (k + left) ≤ length a → 3 * (k + left) ≤ length b → Agree a b (3 * k)
@@ -64,11 +64,11 @@ unfolding played
 answers-agree file zero k s a b q r h = λ j l. h j (omega arith)
 answers-agree file (suc left) k s a b q r h =
     let t = stepAt flat file k s in
-    let a1 = written a k (t .answer) (t .sent) (t .moved) in
-    let b1 = written b k (t .answer) (t .sent) (t .moved) in
-    let la : length a1 ≡ length a = written-long a k (t .answer) (t .sent) (t .moved) in
-    let lb : length b1 ≡ length b = written-long b k (t .answer) (t .sent) (t .moved) in
-    let g : Agree a1 b1 (3 * (k + 1)) = agree-written a b k (t .answer) (t .sent) (t .moved) (omega arith) (omega arith) h in
+    let a1 = written a k (t .answer) (t .sent) (t .moved .count) in
+    let b1 = written b k (t .answer) (t .sent) (t .moved .count) in
+    let la : length a1 ≡ length a = written-long a k (t .answer) (t .sent) (t .moved .count) in
+    let lb : length b1 ≡ length b = written-long b k (t .answer) (t .sent) (t .moved .count) in
+    let g : Agree a1 b1 (3 * (k + 1)) = agree-written a b k (t .answer) (t .sent) (t .moved .count) (omega arith) (omega arith) h in
     let z : Agree (played flat file left (k + 1) (t .state) a1 .answers) (played flat file left (k + 1) (t .state) b1 .answers) (3 * (k + 1 + left)) = answers-agree file left (k + 1) (t .state) a1 b1 (omega arith) (omega arith) g in
     λ j l. z j (omega arith)
 

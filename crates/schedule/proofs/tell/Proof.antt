@@ -39,9 +39,10 @@ mul-out-2 c = search needs
 
 slice-write-out-2 : tie.Need-slice-write-out-2
 slice-write-out-2 c =
-    let out = c .before .before .before .before .before .before .args .out .now in
-    let place = 3 * c .before .before .before .before .before .before .args .k in
-    omega (arith, length-set out place (c .before .before .before .before .before .before .args .p .answer), c .before .before .before .before .before .before .pre)
+    let start = c .before .before .before .before .before .before .before in
+    let out = start .args .out .now in
+    let place = 3 * start .args .k in
+    omega (arith, length-set out place (start .args .p .answer), start .pre)
 
 add-out-3 : tie.Need-add-out-3
 add-out-3 c = search needs
@@ -51,10 +52,11 @@ mul-out-3 c = search needs
 
 slice-write-out-3 : tie.Need-slice-write-out-3
 slice-write-out-3 c =
-    let out = c .before .before .before .before .before .before .args .out .now in
-    let place = 3 * c .before .before .before .before .before .before .args .k in
-    let one = set out place (c .before .before .before .before .before .before .args .p .answer) in
-    omega (arith, length-set out place (c .before .before .before .before .before .before .args .p .answer), length-set one (place + 1) (c .before .size .result + c .size2 .result), c .before .before .before .before .before .before .pre)
+    let start = c .before .before .before .before .before .before .before in
+    let out = start .args .out .now in
+    let place = 3 * start .args .k in
+    let one = set out place (start .args .p .answer) in
+    omega (arith, length-set out place (start .args .p .answer), length-set one (place + 1) (c .before .size .result + c .size2 .result), start .pre)
 
 same-length : tie.Need-same-length
 same-length c = search needs

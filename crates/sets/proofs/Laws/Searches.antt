@@ -1,7 +1,7 @@
 -- Searching, counting and listing the ranks below a bound that pass a test: what each finds, by one record or view, so that
 -- no later proof does induction on it. Assumes nothing.
 use mathlib.Core.Path.{_≡_, refl, sym, ap, _∙_}
-use mathlib.Core.Bool.{Bool, true, false, cond, not, _&&_}
+use mathlib.Core.Bool.{Bool, true, false, cond, not, _&&_, _||_}
 use mathlib.Core.List.{List, [], _∷_, _++_, append-nil}
 use mathlib.Core.Logic.{_⊎_, inl, inr, ⊎-elim}
 use Prim.Native.Nat.{ℕ, zero, suc, _+_, _≤_, _<_}
@@ -10,10 +10,10 @@ use native.Mathlib.Omega.{arith}
 use lib.Dec.{eqb}
 use lib.ListN.{length, getD, length-append, List·getD-append}
 use lib.Seq.{getD-append-add}
-use borrow.Author.Tests.{eq-eqb, ne-eqb, lt-ltb}
-use Rattle.sets.specs.Sets.{has, only, add, minus, setOf, count, largest, smallest, listed, every}
+use borrow.Author.Tests.{eq-eqb, ne-eqb}
+use Rattle.sets.specs.Sets.{has, only, add, minus, count, largest, smallest, listed, every, some}
 use Rattle.sets.proofs.Laws.Bools.{clash, fails, lt-or-le, eq-or-ne, and-i, and-l, and-r, and-not-l}
-use Rattle.sets.proofs.Laws.Members.{has-minus, has-only, has-setOf, has-high, setOf-lt, has-add-other}
+use Rattle.sets.proofs.Laws.Members.{has-minus, has-only, has-add-other}
 
 -- no rank below n passes
 abbrev pub Nobody : (ℕ → Bool) → ℕ → Type 0
@@ -206,12 +206,6 @@ count-add w q (suc n) = ⊎-elim (λ (e : n ≡ q). here e (has (add w q) n) (ha
     there true ih = omega arith
     there false ih = ih
 
--- the size of a set of ranks below n, in a word of m digits
-pub count-setOf : (f : ℕ → Bool) (n m : ℕ) → n ≤ m → count (has (setOf f n)) m ≡ count f n
-count-setOf f n m l =
-    count-wide (has (setOf f n)) n m l (λ k h. has-high (setOf f n) n k (setOf-lt f n) h)
-    ∙ count-cong (has (setOf f n)) f n (λ k h. has-setOf f n k ∙ ap (λ (b : Bool). b && f k) (lt-ltb k n h))
-
 -- ---- the list
 
 pub length-listed : (f : ℕ → Bool) (n : ℕ) → length (listed f n) ≡ count f n
@@ -330,3 +324,13 @@ every-i f (suc n) h = and-i (every f n) (f n) (every-i f n (λ k l. h k (omega a
 
 pub every-not : (f : ℕ → Bool) (n k : ℕ) → k < n → f k ≡ false → every f n ≡ false
 every-not f n k l h = fails (every f n) (λ t. clash (f k) (every-at f n k t l) h)
+
+-- ---- some
+
+pub some-zero : (f : ℕ → Bool) → some f 0 ≡ false
+unfolding some
+some-zero f = refl
+
+pub some-suc : (f : ℕ → Bool) (n : ℕ) → some f (suc n) ≡ some f n || f n
+unfolding some
+some-suc f n = refl

@@ -1,23 +1,22 @@
 -- Mending, over any ancestor sets: one newly known death moves exactly the links that ended at the dead rank, so a table that is
 -- fresh becomes the fresh one by working those out anew. Assumes nothing.
-use mathlib.Core.Path.{_≡_, refl, sym, ap, subst, _∙_}
-use mathlib.Core.Bool.{Bool, true, false, not, _&&_}
+use mathlib.Core.Path.{_≡_, refl, sym, ap, ap₂, subst, _∙_}
+use mathlib.Core.Bool.{Bool, true, false, not, _&&_, _||_}
 use mathlib.Core.List.{List}
 use mathlib.Core.Logic.{⊎-elim}
 use Prim.Native.Nat.{ℕ, zero, suc, _+_, _*_, _≤_, _<_}
 use native.Mathlib.Numerals.{add-one}
 use native.Mathlib.Omega.{arith}
-use lib.Dec.{eqb}
-use mir.Syntax.{w32}
-use mir.Val.{Fits}
+use lib.Dec.{eqb, ltb}
 use lib.ListN.{getD, set, replicate}
-use borrow.Author.Tests.{eq-eqb, ne-eqb}
-use Rattle.sets.specs.Sets.{none, has, add, minus, union, below, setOf, count}
-use Rattle.sets.proofs.Laws.Bools.{clash, eq-or-ne, and-not-r, not-i, not-o}
-use Rattle.sets.proofs.Laws.Members.{add-again, setOf-put, setOf-skip, setOf-zero, minus-setOf, union-below-suc, union-below-zero}
-use Rattle.sets.proofs.Laws.Searches.{count-none, count-cong, count-setOf, count-le}
-use Rattle.tree.specs.Tree.{parent, children, entry, fresh, moves, moved}
-use Rattle.tree.specs.Calls.{mended, mendedBelow, movedBelow}
+use borrow.Author.Tests.{eq-eqb, ne-eqb, lt-ltb, le-ltb}
+use Rattle.sets.specs.Sets.{none, has, add, minus, union, below, setOf, count, some}
+use Rattle.sets.proofs.Laws.Bools.{clash, lt-or-le, eq-or-ne, and-not-r, not-i, not-o}
+use Rattle.sets.proofs.Laws.Members.{add-again, has-zero, has-union, has-setOf, none-in, setOf-passes, setOf-cong, setOf-put, setOf-skip, setOf-zero, minus-setOf, union-below-suc, union-below-zero}
+use Rattle.sets.proofs.Laws.Searches.{count-none, count-le, some-zero, some-suc}
+use Rattle.tree.specs.Tree.{parent, children, entry, fresh, moves, sized, moved, endedAt, nobody}
+use Rattle.tree.specs.Calls.{mended, mendedBelow, movedBelow, andThen}
+use Rattle.tree.specs.declared.Moved.{Moved}
 use Rattle.tree.specs.declared.Mended.{Mended}
 use Rattle.tree.proofs.Laws.Rows.{Patched, patched-start, patched-put, patched-keep, patched-end, entry-below, entry-past, fresh-at, row-replicate}
 use Rattle.tree.proofs.Laws.Parents.{Marked, parent-free, parent-stays, parent-leaves}
@@ -47,14 +46,25 @@ pub moves-linked : (anc : ℕ → ℕ) (marks q p : ℕ) → q < none → moves 
 unfolding moves
 moves-linked anc marks q p l = ap (λ (b : Bool). not (has (add marks q) p) && b) (moves-exactly anc marks q p l)
 
--- Marking a marked rank changes nothing, moved 0.
-pub moved-again : (anc : ℕ → ℕ) (n marks q : ℕ) → Marked marks q → moved anc n marks q ≡ 0
-unfolding moved moves
-moved-again anc n marks q h = count-none (moves anc marks q) n (λ p l. and-not-r (not (has (add marks q) p)) (not (eqb (parent anc (add marks q) p) (parent anc marks p))) (not-o (eqb (parent anc (add marks q) p) (parent anc marks p)) (eq-eqb (parent anc (add marks q) p) (parent anc marks p) (ap (λ (m : ℕ). parent anc m p) (add-again marks q h)))))
+-- Marking a marked rank changes nothing, and nobody moves.
+again-stays : (anc : ℕ → ℕ) (marks q p : ℕ) → Marked marks q → moves anc marks q p ≡ false
+unfolding moves
+again-stays anc marks q p h = and-not-r (not (has (add marks q) p)) (not (eqb (parent anc (add marks q) p) (parent anc marks p))) (not-o (eqb (parent anc (add marks q) p) (parent anc marks p)) (eq-eqb (parent anc (add marks q) p) (parent anc marks p) (ap (λ (m : ℕ). parent anc m p) (add-again marks q h))))
 
-pub mended-again : (anc : ℕ → ℕ) (n marks q : ℕ) (t : List ℕ) (b : Bool) → b ≡ has marks q → b ≡ true → t ≡ fresh anc n marks → _≡_ {A = Mended} (record { marks = marks; table = t; moved = 0 }) (mended anc n marks q)
+again-none : (anc : ℕ → ℕ) (n marks q : ℕ) → Marked marks q → setOf (moves anc marks q) n ≡ 0
+again-none anc n marks q h = none-in (setOf (moves anc marks q) n) (λ p e. clash (moves anc marks q p) (setOf-passes (moves anc marks q) n p e) (again-stays anc marks q p h))
+
+pub empty-sized : sized 0 ≡ nobody
+unfolding sized
+empty-sized = let e : count (has 0) 64 ≡ 0 = count-none (has 0) 64 (λ p l. has-zero p) in rw e
+
+pub moved-again : (anc : ℕ → ℕ) (n marks q : ℕ) → Marked marks q → moved anc n marks q ≡ nobody
+unfolding moved
+moved-again anc n marks q h = ap sized (again-none anc n marks q h) ∙ empty-sized
+
+pub mended-again : (anc : ℕ → ℕ) (n marks q : ℕ) (t : List ℕ) (b : Bool) (v : Moved) → b ≡ has marks q → b ≡ true → t ≡ fresh anc n marks → v ≡ nobody → _≡_ {A = Mended} (record { marks = marks; table = t; moved = v }) (mended anc n marks q)
 unfolding mended
-mended-again anc n marks q t b m h e = let k : Marked marks q = sym m ∙ h in rw (e, add-again marks q k, moved-again anc n marks q k)
+mended-again anc n marks q t b v m h e u = let k : Marked marks q = sym m ∙ h in rw (e, u, add-again marks q k, moved-again anc n marks q k)
 
 -- What a mended view holds, for callers: the marks, the fresh table of these marks, and moved.
 pub mended-marks : (anc : ℕ → ℕ) (n marks q : ℕ) (m : Mended) → m ≡ mended anc n marks q → m .marks ≡ add marks q
@@ -81,9 +91,25 @@ pub below-fresh : (anc : ℕ → ℕ) (n marks q : ℕ) (m : Mended) → m ≡ m
 unfolding mendedBelow
 below-fresh anc n marks q m e = rw e refl
 
-pub moved-le : (anc : ℕ → ℕ) (n marks q : ℕ) → moved anc n marks q ≤ n
-unfolding moved
-moved-le anc n marks q = count-le (moves anc marks q) n
+-- Who moves at a mark: a rank of the group that is unmarked after it and whose entry ended at the newly marked one.
+pub moved-who : (anc : ℕ → ℕ) (n marks q p : ℕ) → n ≤ 64 → q < none → has (moved anc n marks q .ranks) p ≡ endedAt n q (add marks q) (fresh anc n marks) p
+unfolding moved sized endedAt
+moved-who anc n marks q p h l = has-setOf (moves anc marks q) n p ∙ ⊎-elim inside outside (lt-or-le p n)
+  where
+    inside : p < n → ltb p n && moves anc marks q p ≡ ltb p n && not (has (add marks q) p) && eqb (getD (fresh anc n marks) p 0) q
+    inside b = rw (lt-ltb p n b, fresh-at anc n marks p h b) (moves-linked anc marks q p l)
+
+    outside : n ≤ p → ltb p n && moves anc marks q p ≡ ltb p n && not (has (add marks q) p) && eqb (getD (fresh anc n marks) p 0) q
+    outside b = rw (le-ltb p n b)
+
+-- moved is that set's size.
+pub moved-size : (anc : ℕ → ℕ) (n marks q : ℕ) → moved anc n marks q .count ≡ count (has (moved anc n marks q .ranks)) 64
+unfolding moved sized
+moved-size anc n marks q = refl
+
+moved-le : (anc : ℕ → ℕ) (n marks q : ℕ) → moved anc n marks q .count ≤ 64
+unfolding moved sized
+moved-le anc n marks q = count-le (has (setOf (moves anc marks q) n)) 64
 
 -- ---- the loop of `mend`: the first i entries are the new table's, and the set holds those of them that pointed at q
 
@@ -126,57 +152,67 @@ pub mending-table : (anc : ℕ → ℕ) (n marks q i : ℕ) (t : List ℕ) (w : 
 unfolding fresh
 mending-table anc n marks q i t w m h = patched-end 0 (entry anc n (add marks q)) (entry anc n marks) 64 i t (m .table) (λ k l b. entry-past anc n marks k (omega arith) ∙ sym (entry-past anc n (add marks q) k (omega arith)))
 
-pub mending-moved : (anc : ℕ → ℕ) (n marks q i : ℕ) (t : List ℕ) (w : ℕ) → n ≤ 64 → q < none → Mending anc n marks q i t w → n ≤ i → count (has (minus w (add marks q))) 64 ≡ moved anc n marks q
-unfolding moved
-mending-moved anc n marks q i t w s b m h =
-    let f : ℕ → Bool = λ p. eqb (parent anc marks p) q in
+mending-ranks : (anc : ℕ → ℕ) (n marks q i : ℕ) (t : List ℕ) (w : ℕ) → q < none → Mending anc n marks q i t w → n ≤ i → minus w (add marks q) ≡ setOf (moves anc marks q) n
+mending-ranks anc n marks q i t w b m h =
     let e : i ≡ n = omega (arith, m .within) in
-    ap (λ (x : ℕ). count (has (minus x (add marks q))) 64) (m .changed ∙ ap (setOf (λ p. eqb (parent anc marks p) q)) e)
-    ∙ ap (λ (x : ℕ). count (has x) 64) (minus-setOf (λ p. eqb (parent anc marks p) q) n (add marks q))
-    ∙ count-setOf (λ p. not (has (add marks q) p) && eqb (parent anc marks p) q) n 64 s
-    ∙ sym (count-cong (moves anc marks q) (λ p. not (has (add marks q) p) && eqb (parent anc marks p) q) n (λ p l. moves-linked anc marks q p b))
+    ap (λ (x : ℕ). minus x (add marks q)) (m .changed ∙ ap (setOf (λ p. eqb (parent anc marks p) q)) e)
+    ∙ minus-setOf (λ p. eqb (parent anc marks p) q) n (add marks q)
+    ∙ sym (setOf-cong (moves anc marks q) (λ p. not (has (add marks q) p) && eqb (parent anc marks p) q) n (λ p l. moves-linked anc marks q p b))
 
-pub mending-end : (anc : ℕ → ℕ) (n marks q i : ℕ) (t : List ℕ) (w after left v : ℕ) → n ≤ 64 → q < n → Mending anc n marks q i t w → n ≤ i
-    → after ≡ add marks q → left ≡ minus w after → v ≡ count (has left) 64 → _≡_ {A = Mended} (record { marks = after; table = t; moved = v }) (mended anc n marks q)
-unfolding mended
+pub mending-end : (anc : ℕ → ℕ) (n marks q i : ℕ) (t : List ℕ) (w after left : ℕ) (v : Moved) → n ≤ 64 → q < n → Mending anc n marks q i t w → n ≤ i
+    → after ≡ add marks q → left ≡ minus w after → v ≡ sized left → _≡_ {A = Mended} (record { marks = after; table = t; moved = v }) (mended anc n marks q)
+unfolding mended moved
 mending-end anc n marks q i t w after left v b l m h ea el ev =
-    let e : v ≡ moved anc n marks q = ev ∙ ap (λ (x : ℕ). count (has x) 64) (el ∙ ap (minus w) ea) ∙ mending-moved anc n marks q i t w b (omega arith) m h in
+    let e : v ≡ sized (setOf (moves anc marks q) n) = ev ∙ ap sized (el ∙ ap (minus w) ea ∙ mending-ranks anc n marks q i t w (omega arith) m h) in
     rw (ea, mending-table anc n marks q i t w m h, e)
 
 -- ---- marking all below q
 
-pub record Below (anc : ℕ → ℕ) (n start k marks : ℕ) (t : List ℕ) (moved : ℕ) : Type 0 where
+pub record Below (anc : ℕ → ℕ) (n start k marks : ℕ) (t : List ℕ) (moved : Moved) : Type 0 where
   pub marks-are : marks ≡ union start (below k)
   pub table-is : t ≡ fresh anc n marks
   pub moved-is : moved ≡ movedBelow anc n start k
 
-pub below-start : (anc : ℕ → ℕ) (n marks : ℕ) (t : List ℕ) → t ≡ fresh anc n marks → Below anc n marks 0 marks t 0
+pub below-start : (anc : ℕ → ℕ) (n marks : ℕ) (t : List ℕ) (v : Moved) → t ≡ fresh anc n marks → v ≡ nobody → Below anc n marks 0 marks t v
 unfolding movedBelow
-below-start anc n marks t e = record { marks-are = sym (union-below-zero marks); table-is = e; moved-is = refl }
+below-start anc n marks t v e u = record { marks-are = sym (union-below-zero marks); table-is = e; moved-is = u }
 
-pub below-step : (anc : ℕ → ℕ) (n start k marks : ℕ) (t : List ℕ) (v : ℕ) (m : Mended) → Below anc n start k marks t v → m ≡ mended anc n marks k → Below anc n start (k + 1) (m .marks) (m .table) (v + m .moved)
+pub below-step : (anc : ℕ → ℕ) (n start k marks : ℕ) (t : List ℕ) (v w : Moved) (m : Mended) → Below anc n start k marks t v → m ≡ mended anc n marks k → w ≡ andThen v (m .moved) → Below anc n start (k + 1) (m .marks) (m .table) w
 unfolding mended movedBelow
-below-step anc n start k marks t v m b e = record {
+below-step anc n start k marks t v w m b e f = record {
   marks-are = ap (λ (x : Mended). x .marks) e ∙ ap (λ (x : ℕ). add x k) (b .marks-are) ∙ union-below-suc start k ∙ ap (λ (x : ℕ). union start (below x)) (sym (add-one k));
   table-is = rw e;
-  moved-is = rw (add-one k, e, b .moved-is, b .marks-are);
+  moved-is = f ∙ rw (add-one k, e, b .moved-is, b .marks-are);
 }
 
-pub below-end : (anc : ℕ → ℕ) (n start q k marks : ℕ) (t : List ℕ) (v : ℕ) → Below anc n start k marks t v → k ≤ q → q ≤ k → _≡_ {A = Mended} (record { marks = marks; table = t; moved = v }) (mendedBelow anc n start q)
+pub below-end : (anc : ℕ → ℕ) (n start q k marks : ℕ) (t : List ℕ) (v : Moved) → Below anc n start k marks t v → k ≤ q → q ≤ k → _≡_ {A = Mended} (record { marks = marks; table = t; moved = v }) (mendedBelow anc n start q)
 unfolding mendedBelow
 below-end anc n start q k marks t v b l h = let e : q ≡ k = omega arith in rw (b .table-is, b .marks-are, b .moved-is, e)
 
--- the sum fits: each mark moves 64 ranks at most
-moved-below-le : (anc : ℕ → ℕ) (n marks k : ℕ) → n ≤ 64 → movedBelow anc n marks k ≤ 64 * k
-unfolding movedBelow
-moved-below-le anc n marks zero h = omega arith
-moved-below-le anc n marks (suc k) h = omega (arith, moved-below-le anc n marks k h, moved-le anc n (union marks (below k)) k)
+-- Who moves at the marks of all below q: whoever moves at one of them.
+abbrev atMark : (ℕ → ℕ) → ℕ → ℕ → ℕ → ℕ → Bool
+atMark anc n marks p k = endedAt n k (add (union marks (below k)) k) (fresh anc n (union marks (below k))) p
 
-pub below-fits : (anc : ℕ → ℕ) (n start q k marks : ℕ) (t : List ℕ) (v : ℕ) (m : Mended) → n ≤ 64 → Below anc n start k marks t v → k < q → q ≤ n → m ≡ mended anc n marks k → Fits w32 (v + m .moved)
+pub below-who : (anc : ℕ → ℕ) (n marks q p : ℕ) → n ≤ 64 → q ≤ none → has (movedBelow anc n marks q .ranks) p ≡ some (atMark anc n marks p) q
+unfolding movedBelow andThen
+below-who anc n marks zero p h l = has-zero p ∙ sym (some-zero (atMark anc n marks p))
+below-who anc n marks (suc k) p h l =
+    has-union (movedBelow anc n marks k .ranks) (moved anc n (union marks (below k)) k .ranks) p
+    ∙ ap₂ (λ (x y : Bool). x || y) (below-who anc n marks k p h (omega arith)) (moved-who anc n (union marks (below k)) k p h (omega arith))
+    ∙ sym (some-suc (atMark anc n marks p) k)
+
+-- the sum is small: each mark moves 64 ranks at most
+moved-below-le : (anc : ℕ → ℕ) (n marks k : ℕ) → movedBelow anc n marks k .count ≤ 64 * k
+unfolding movedBelow andThen
+moved-below-le anc n marks zero = omega arith
+moved-below-le anc n marks (suc k) = omega (arith, moved-below-le anc n marks k, moved-le anc n (union marks (below k)) k)
+
+pub below-few : (anc : ℕ → ℕ) (n start q k marks : ℕ) (t : List ℕ) (v : Moved) (m : Mended) → n ≤ 64 → Below anc n start k marks t v → k < q → q ≤ n → m ≡ mended anc n marks k → v .count + m .moved .count ≤ 4096
 unfolding mended
-below-fits anc n start q k marks t v m h b l o e =
-    let a : m .moved ≤ n = subst (λ (x : ℕ). x ≤ n) (sym (ap (λ (x : Mended). x .moved) e)) (moved-le anc n marks k) in
-    record { fits = omega (arith, b .moved-is, moved-below-le anc n start k h) }
+below-few anc n start q k marks t v m h b l o e =
+    let a : m .moved .count ≤ 64 = subst (λ (x : Moved). x .count ≤ 64) (sym (ap (λ (x : Mended). x .moved) e)) (moved-le anc n marks k) in
+    let c : v .count ≤ 64 * k = subst (λ (x : Moved). x .count ≤ 64 * k) (sym (b .moved-is)) (moved-below-le anc n start k) in
+    omega arith
 
 -- ---- the loop of `children_of`: the set holds the ranks before i whose entry is p
 

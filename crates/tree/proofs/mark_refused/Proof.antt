@@ -1,12 +1,15 @@
 -- `tree::mark_refused` meets its contract: the record is the definition's. Assumes nothing.
-use mathlib.Core.Path.{refl}
+use borrow.Author.Needs.{needs}
 use Rattle.tree.specs.Calls.{markRefused}
 use Rattle.tree.proofs.mark_refused.Statement.{statement}
 use Rattle.tree.proofs.mark_refused.Tie as tie
 
+nobody-requires : tie.Need-nobody-requires
+nobody-requires c κs = search needs
+
 returns : tie.Need-returns
 unfolding markRefused
-returns c = refl
+returns c = rw (c .nobody .ensures)
 
 pub mark-refused-spec : {M : Type 1} → statement M
-mark-refused-spec = tie.close (tie.spec returns)
+mark-refused-spec = tie.close (tie.spec nobody-requires returns)

@@ -19,6 +19,9 @@ abbrev μ-loop : tie.MeasureT-loop
 member-requires : tie.Need-member-requires Inv-loop μ-loop
 member-requires c κs = search needs
 
+nobody-requires : tie.Need-nobody-requires Inv-loop μ-loop
+nobody-requires c κs = search needs
+
 returns : tie.Need-returns Inv-loop μ-loop
 returns c = search mended-again
 
@@ -63,11 +66,8 @@ loop-again c =
 minus-requires : tie.Need-minus-requires Inv-loop μ-loop
 minus-requires c κs = search needs
 
-size-requires : tie.Need-size-requires Inv-loop μ-loop
-size-requires c κs = search needs
-
-cast-moved : tie.Need-cast-moved Inv-loop μ-loop
-cast-moved c = search needs
+sized-requires : tie.Need-sized-requires Inv-loop μ-loop
+sized-requires c κs = search needs
 
 returns-2 : tie.Need-returns-2 Inv-loop μ-loop
 returns-2 c = search mending-end
@@ -79,6 +79,7 @@ mend-spec =
     Inv-loop
     μ-loop
     member-requires
+    nobody-requires
     returns
     with-requires
     loop-holds
@@ -92,6 +93,5 @@ mend-spec =
     loop-less
     loop-again
     minus-requires
-    size-requires
-    cast-moved
+    sized-requires
     returns-2)

@@ -1,10 +1,10 @@
--- `tree::mend_below` meets its contract. The invariant: all below k are marked, the table is fresh, and the sum is theirs.
+-- `tree::mend_below` meets its contract. The invariant: all below k are marked, the table is fresh, and union and sum are theirs.
 -- Assumes nothing.
 use Prim.Native.Nat.{_≤_, _-_}
 use native.Mathlib.Omega.{arith}
 use borrow.Author.Needs.{needs}
 use Rattle.tree.specs.Tree.{flat}
-use Rattle.tree.proofs.Laws.Mending.{Below, below-start, below-step, below-end, below-fits}
+use Rattle.tree.proofs.Laws.Mending.{Below, below-start, below-step, below-end, below-few}
 use Rattle.tree.proofs.mend_below.Statement.{statement}
 use Rattle.tree.proofs.mend_below.Tie as tie
 
@@ -14,14 +14,17 @@ Inv-loop n marks₀ table₀ q moved₀ k₀ marks table moved k = Below flat n 
 abbrev μ-loop : tie.MeasureT-loop
 μ-loop n marks₀ table₀ q moved₀ k₀ marks table moved k = q - k
 
+nobody-requires : tie.Need-nobody-requires Inv-loop μ-loop
+nobody-requires c κs = search needs
+
 loop-holds : tie.Need-loop-holds Inv-loop μ-loop
 loop-holds c = search (below-start, needs)
 
 mend-requires : tie.Need-mend-requires Inv-loop μ-loop
 mend-requires c κs = search needs
 
-add-moved : tie.Need-add-moved Inv-loop μ-loop
-add-moved c = search (below-fits, needs)
+and-then-requires : tie.Need-and-then-requires Inv-loop μ-loop
+and-then-requires c κs = search (below-few, needs)
 
 add-k : tie.Need-add-k Inv-loop μ-loop
 add-k c = search needs
@@ -41,9 +44,10 @@ mend-below-spec =
     (tie.spec
     Inv-loop
     μ-loop
+    nobody-requires
     loop-holds
     mend-requires
-    add-moved
+    and-then-requires
     add-k
     loop-less
     loop-again

@@ -10,6 +10,9 @@ decide-requires c κs = search needs
 silent-requires : tie.Need-silent-requires
 silent-requires c κs = search needs
 
+nobody-requires : tie.Need-nobody-requires
+nobody-requires c κs = search needs
+
 returns : tie.Need-returns
 returns c = search down-decides
 
@@ -18,6 +21,9 @@ silent-requires-2 c κs = search needs
 
 silent-requires-3 : tie.Need-silent-requires-3
 silent-requires-3 c κs = search needs
+
+nobody-requires-2 : tie.Need-nobody-requires-2
+nobody-requires-2 c κs = search needs
 
 returns-2 : tie.Need-returns-2
 returns-2 c = search down-nothing
@@ -28,7 +34,9 @@ down-spec =
     (tie.spec
     decide-requires
     silent-requires
+    nobody-requires
     returns
     silent-requires-2
     silent-requires-3
+    nobody-requires-2
     returns-2)

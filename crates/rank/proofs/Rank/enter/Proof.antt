@@ -10,6 +10,9 @@ combine-requires c κs = search needs
 silent-requires : tie.Need-silent-requires
 silent-requires c κs = search needs
 
+nobody-requires : tie.Need-nobody-requires
+nobody-requires c κs = search needs
+
 settle-requires : tie.Need-settle-requires
 settle-requires c κs = search needs
 
@@ -17,4 +20,5 @@ returns : tie.Need-returns
 returns c = search enter-returns
 
 pub enter-spec : {M : Type 1} → statement M
-enter-spec = tie.close (tie.spec combine-requires silent-requires settle-requires returns)
+enter-spec =
+    tie.close (tie.spec combine-requires silent-requires nobody-requires settle-requires returns)

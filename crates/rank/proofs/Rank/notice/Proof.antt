@@ -14,6 +14,9 @@ silent-requires c κs = search needs
 silent-requires-2 : tie.Need-silent-requires-2
 silent-requires-2 c κs = search needs
 
+nobody-requires : tie.Need-nobody-requires
+nobody-requires c κs = search needs
+
 returns : tie.Need-returns
 returns c = search notice-again
 
@@ -41,6 +44,7 @@ notice-spec =
     member-requires
     silent-requires
     silent-requires-2
+    nobody-requires
     returns
     mend-requires
     view-requires

@@ -10,6 +10,9 @@ only-requires c κs = search needs
 down-requires : tie.Need-down-requires
 down-requires c κs = search needs
 
+nobody-requires : tie.Need-nobody-requires
+nobody-requires c κs = search needs
+
 settle-requires : tie.Need-settle-requires
 settle-requires c κs = search needs
 
@@ -34,11 +37,20 @@ combine-requires c κs = search needs
 silent-requires : tie.Need-silent-requires
 silent-requires c κs = search needs
 
+nobody-requires-2 : tie.Need-nobody-requires-2
+nobody-requires-2 c κs = search needs
+
 settle-requires-2 : tie.Need-settle-requires-2
 settle-requires-2 c κs = search needs
 
 returns-2 : tie.Need-returns-2
-returns-2 c = search up-undecided
+returns-2 c =
+    let silent = c .before .before in
+    let fewer = silent .before .before in
+    let owes = fewer .before .before in
+    let hears = owes .before in
+    let undecided = hears .before in
+    up-undecided _ _ _ _ _ _ _ _ _ _ _ _ _ _ (undecided .before .before .pre .1 .0) (undecided .if1 .left) (hears .with .ensures) (owes .with2 .ensures) (fewer .before .only2 .ensures) (fewer .minus .ensures) (silent .before .combine .ensures) (silent .silent .ensures) (c .before .nobody2 .ensures) (c .settle2 .ensures)
 
 pub up-spec : {M : Type 1} → statement M
 up-spec =
@@ -46,6 +58,7 @@ up-spec =
     (tie.spec
     only-requires
     down-requires
+    nobody-requires
     settle-requires
     returns
     with-requires
@@ -54,5 +67,6 @@ up-spec =
     minus-requires
     combine-requires
     silent-requires
+    nobody-requires-2
     settle-requires-2
     returns-2)
