@@ -2,7 +2,8 @@
 //! and prints the other:
 //!
 //!     climb N MARKS RANK ALLOWANCE     climb NUMBER RANK LINKS
-//!     mark N MARKS RANK T0 .. T63      mark NUMBER MARKS MOVED T0 .. T63
+//!     mark N MARKS RANK T0 .. T63      mark NUMBER MARKS COUNT T0 .. T63
+//!     who N MARKS RANK T0 .. T63       who NUMBER COUNT RANKS, of the same mark
 
 use crate::tree::Set;
 use crate::views::{climb, mark, Table};
@@ -11,6 +12,7 @@ use crate::views::{climb, mark, Table};
 pub enum Case {
     Climb { n: u32, marks: u64, p: u32, allowance: u32 },
     Mark { n: u32, marks: u64, q: u32, table: Table },
+    Who { n: u32, marks: u64, q: u32, table: Table },
 }
 
 pub fn set(word: u64) -> Set {
@@ -30,6 +32,15 @@ impl Case {
         match self {
             Case::Climb { n, marks, p, allowance } => format!("climb {n} {marks} {p} {allowance}\n"),
             Case::Mark { n, marks, q, table } => format!("mark {n} {marks} {q} {}\n", spaced(table)),
+            Case::Who { n, marks, q, table } => format!("who {n} {marks} {q} {}\n", spaced(table)),
+        }
+    }
+
+    /// Of a mark, the same mark asked who moved.
+    pub fn who(&self) -> Case {
+        match *self {
+            Case::Mark { n, marks, q, table } => Case::Who { n, marks, q, table },
+            case => case,
         }
     }
 
@@ -42,7 +53,11 @@ impl Case {
             }
             Case::Mark { n, marks, q, table } => {
                 let done = mark(*n, &set(*marks), table, *q);
-                format!("mark {} {} {} {}\n", done.number, word(&done.marks), done.moved, spaced(&done.table))
+                format!("mark {} {} {} {}\n", done.number, word(&done.marks), done.moved.count, spaced(&done.table))
+            }
+            Case::Who { n, marks, q, table } => {
+                let done = mark(*n, &set(*marks), table, *q);
+                format!("who {} {} {}\n", done.number, done.moved.count, word(&done.moved.ranks))
             }
         }
     }
@@ -53,9 +68,10 @@ impl Case {
         let marks = |k: usize| words[k].parse::<u64>().ok();
         match words[0] {
             "climb" if words.len() == 5 => Some(Case::Climb { n: small(1)?, marks: marks(2)?, p: small(3)?, allowance: small(4)? }),
-            "mark" if words.len() == 68 => {
+            "mark" | "who" if words.len() == 68 => {
                 let entries: Option<Vec<u8>> = words[4..].iter().map(|w| w.parse().ok()).collect();
-                Some(Case::Mark { n: small(1)?, marks: marks(2)?, q: small(3)?, table: entries?.try_into().ok()? })
+                let (n, marks, q, table) = (small(1)?, marks(2)?, small(3)?, entries?.try_into().ok()?);
+                Some(if words[0] == "mark" { Case::Mark { n, marks, q, table } } else { Case::Who { n, marks, q, table } })
             }
             _ => None,
         }
@@ -97,11 +113,12 @@ mod tests {
     #[test]
     fn example_2() {
         let rest = " 255".repeat(56);
-        let text = format!("mark 8 0 1 255 0 1 1 2 2 3 3{rest}\n");
+        let text = format!("mark 8 0 1 255 0 1 1 2 2 3 3{rest}\nwho 8 0 1 255 0 1 1 2 2 3 3{rest}\n");
         let cases = read(&text).expect("cases");
         assert_eq!(lines(&cases), text);
-        assert_eq!(answers(&cases), format!("mark 0 2 2 255 0 0 0 2 2 3 3{rest}\n"));
+        assert_eq!(answers(&cases), format!("mark 0 2 2 255 0 0 0 2 2 3 3{rest}\nwho 0 2 12\n"));
     }
+
     #[test]
     fn bad_lines() {
         assert_eq!(read("climb 64 0 63 6\nclimb 64\n"), Err("line 2: not a case".to_string()));

@@ -1,11 +1,12 @@
-//! The programs beside the model: listings of fresh random schedules, a difference made as small as can be; and marks and climbs on fresh
-//! random views.
+//! The programs beside the model: listings of fresh random schedules, a difference made as small as can be; marks and climbs on fresh random
+//! views; and who moved, by marks and by events.
 
-use crate::cases::{answers, lines};
+use crate::cases::{answers, lines, Case};
 use crate::fail;
-use crate::file::listing;
+use crate::file::{listing, read};
 use crate::random::{schedule, Random};
 use crate::random_views::cases;
+use crate::script::script;
 use std::io::Write;
 use std::process::{Command, Stdio};
 use std::thread;
@@ -73,22 +74,53 @@ fn first_difference(ours: &str, theirs: &str) -> usize {
     ours.lines().zip(theirs.lines()).take_while(|(o, t)| o == t).count()
 }
 
-/// Compares `count` marks and climbs from the seed on, many in one run of the program; true when there was no difference.
+/// Compares the answers to the cases of the seeds from this one on; true when there was no difference.
+fn alike(program: &str, seed: u64, cases: &[Case]) -> bool {
+    let (text, ours) = (lines(cases), answers(cases));
+    let theirs = answer(program, text.as_bytes());
+    if ours != theirs {
+        let at = first_difference(&ours, &theirs);
+        let line = |text: &str| text.lines().nth(at).unwrap_or("nothing").to_string();
+        println!("seed {}: {}", seed + at as u64, line(&text));
+        println!("the model:   {}\nthe program: {}", line(&ours), line(&theirs));
+    }
+    ours == theirs
+}
+
+/// Compares `count` marks, with who moved, and climbs from the seed on, many in one run of the program; true when there was no difference.
 pub fn compare_views(program: &str, seed: u64, count: u64) -> bool {
     let batch = 2000;
     for from in (0..count).step_by(batch) {
         let cases = cases(seed + from, (count - from).min(batch as u64));
-        let (text, ours) = (lines(&cases), answers(&cases));
-        let theirs = answer(program, text.as_bytes());
-        if ours != theirs {
-            let at = first_difference(&ours, &theirs);
-            let line = |text: &str| text.lines().nth(at).unwrap_or("nothing").to_string();
-            println!("seed {}: {}", seed + from + at as u64, line(&text));
-            println!("the model:   {}\nthe program: {}", line(&ours), line(&theirs));
-            println!("{} cases alike, then a difference", from + at as u64);
+        let asked: Vec<Case> = cases.iter().map(Case::who).collect();
+        if !alike(program, seed + from, &cases) || !alike(program, seed + from, &asked) {
+            println!("{from} cases alike, and a difference in the next {}", cases.len());
             return false;
         }
     }
     println!("{count} cases, no difference");
+    true
+}
+
+/// Compares who moved by the events of schedules from the seed on, of those of `count` that are not refused; true when there was no
+/// difference.
+pub fn compare_events(program: &str, seed: u64, count: u64) -> bool {
+    let (mut schedules, mut events, mut twice) = (0, 0, 0);
+    for k in seed..seed + count {
+        let Ok((n, all)) = read(&schedule(&mut Random::new(k))) else { continue };
+        let script = script(n, &all);
+        let theirs = answer(program, script.text.as_bytes());
+        if script.wanted != theirs {
+            let at = first_difference(&script.wanted, &theirs);
+            let line = |text: &str| text.lines().nth(at).unwrap_or("nothing").to_string();
+            println!("seed {k}, line {}:\nthe model:   {}\nthe program: {}", at + 1, line(&script.wanted), line(&theirs));
+            println!("{schedules} schedules alike, then a difference");
+            return false;
+        }
+        schedules += 1;
+        events += script.answers.len();
+        twice += script.answers.iter().filter(|a| a.moved.count as usize > a.moved.ranks.len()).count();
+    }
+    println!("{events} events of {schedules} schedules, {twice} with a count above the set's size, no difference");
     true
 }

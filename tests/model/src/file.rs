@@ -54,7 +54,7 @@ pub fn listing(bytes: &[u8]) -> String {
     let mut text = format!("agr 1 {n} {}\n", events.len());
     for (place, e) in events.iter().enumerate() {
         let answer = group.event(*e);
-        text += &format!("{place} {} {} {}\n", answer.number, answer.sent, answer.moved);
+        text += &format!("{place} {} {} {}\n", answer.number, answer.sent, answer.moved.count);
     }
     for r in 0..n {
         let rank = &group.ranks[r as usize];

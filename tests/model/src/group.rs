@@ -1,7 +1,7 @@
 //! Document 01, "The group and its events" and "Refusal numbers".
 
 use crate::rank::{Body, Done, Phase, Rank};
-use crate::tree::Set;
+use crate::tree::{Moved, Set};
 
 #[derive(Clone, Copy)]
 pub struct Message {
@@ -25,11 +25,11 @@ pub struct Event {
     pub b: u32,
 }
 
-#[derive(Clone, Copy, PartialEq, Debug)]
+#[derive(Default, PartialEq, Debug)]
 pub struct Answer {
     pub number: u32,
     pub sent: u32,
-    pub moved: u32,
+    pub moved: Moved,
 }
 
 pub const ROOM: usize = 128;
@@ -87,10 +87,10 @@ impl Group {
     /// One event; a refused one leaves the group as it was.
     pub fn event(&mut self, e: Event) -> Answer {
         if let Some(number) = self.refusal(e) {
-            return Answer { number, sent: 0, moved: 0 };
+            return Answer { number, ..Answer::default() };
         }
         let mut next = self.clone();
-        let nothing = Answer { number: 0, sent: 0, moved: 0 };
+        let nothing = Answer::default();
         let answer = match e.kind {
             1 => next.act(e.a, |r| r.enter(e.b)),
             2 => {
@@ -112,7 +112,7 @@ impl Group {
             }
         };
         if next.net.len() > ROOM {
-            return Answer { number: 11, sent: 0, moved: 0 };
+            return Answer { number: 11, ..Answer::default() };
         }
         *self = next;
         answer
@@ -130,7 +130,7 @@ mod tests {
     #[test]
     fn examples_8_and_10() {
         let mut g = Group::start(1);
-        assert_eq!(g.event(Event { kind: 1, a: 0, b: 9 }), Answer { number: 0, sent: 0, moved: 0 });
+        assert_eq!(g.event(Event { kind: 1, a: 0, b: 9 }), Answer::default());
         assert_eq!((g.ranks[0].phase, g.ranks[0].result), (Phase::Decided, 9));
         assert_eq!(say(&mut g, 3, 0, 0), 9);
         assert_eq!(say(&mut g, 1, 0, 9), 7);

@@ -1,14 +1,15 @@
-//! A second opinion on schedules, marks and climbs, written from document 01 and request 2026-04 alone.
+//! A second opinion on schedules, marks and climbs, written from document 01 and requests 2026-01 and 2026-04 alone.
 //!
-//!     model listing < FILE                   the listing that FILE must have
-//!     model write [EVENTS] > FILE            the schedule that a text describes (events.rs)
-//!     model schedule SEED > FILE             a random schedule
-//!     model data SEED COUNT DIR              COUNT of them as DIR/000.agr and on, few of them long, then those at the limits; their
-//!                                            listings on standard output
-//!     model compare PROGRAM SEED COUNT       the program's listings beside the model's
-//!     model views SEED COUNT > CASES         COUNT random marks and climbs, a line each
-//!     model answers < CASES                  the lines that must answer them
-//!     model compare-views PROGRAM SEED COUNT the program's answers beside the model's
+//!     model listing < FILE                     the listing that FILE must have
+//!     model write [EVENTS] > FILE              the schedule that a text describes (events.rs)
+//!     model schedule SEED > FILE               a random schedule
+//!     model data SEED COUNT DIR                COUNT of them as DIR/000.agr and on, few of them long, then those at the limits; their
+//!                                              listings on standard output
+//!     model compare PROGRAM SEED COUNT         the program's listings beside the model's
+//!     model views SEED COUNT > CASES           COUNT random marks and climbs, a line each
+//!     model answers < CASES                    the lines that must answer them
+//!     model compare-views PROGRAM SEED COUNT   the program's answers beside the model's, and who moved by each mark
+//!     model compare-events PROGRAM SEED COUNT  who moved by each event of random schedules, the program beside the model
 //!
 //! It ends with 1 where a text is refused or a comparison finds a difference, 2 for a wrong use, 3 where reading or
 //! writing failed.
@@ -21,6 +22,7 @@ mod group;
 mod random;
 mod random_views;
 mod rank;
+mod script;
 mod tree;
 mod views;
 
@@ -111,10 +113,11 @@ fn main() {
         ["views", seed, count] => print(cases::lines(&random_views::cases(number(seed), number(count))).as_bytes()),
         ["answers"] => print(cases::answers(&said(INPUT, input(), cases::read)).as_bytes()),
         ["compare-views", program, seed, count] => ends(compare::compare_views(program, number(seed), number(count))),
+        ["compare-events", program, seed, count] => ends(compare::compare_events(program, number(seed), number(count))),
         _ => fail(
             2,
             "listing | write [EVENTS] | schedule SEED | data SEED COUNT DIR | compare PROGRAM SEED COUNT | \
-             views SEED COUNT | answers | compare-views PROGRAM SEED COUNT",
+             views SEED COUNT | answers | compare-views PROGRAM SEED COUNT | compare-events PROGRAM SEED COUNT",
         ),
     }
 }

@@ -189,8 +189,8 @@ mod tests {
         match done.number {
             0 if marks >> q & 1 == 1 => "mark, again",
             0 if done.marks.len() as u32 == n => "mark, the last unmarked rank",
-            0 if done.moved == 0 => "mark, moves none",
-            0 if done.moved > 6 => "mark, moves many",
+            0 if done.moved.count == 0 => "mark, moves none",
+            0 if done.moved.count > 6 => "mark, moves many",
             0 => "mark",
             1 => "mark 1",
             2 if q >= n => "mark 2, no rank either",
@@ -207,7 +207,7 @@ mod tests {
     fn shows(case: Case) -> &'static str {
         match case {
             Case::Climb { n, marks, p, allowance } => climb_shows(n, marks, p, allowance),
-            Case::Mark { n, marks, q, table } => mark_shows(n, marks, q, table),
+            Case::Mark { n, marks, q, table } | Case::Who { n, marks, q, table } => mark_shows(n, marks, q, table),
         }
     }
 

@@ -1,6 +1,6 @@
 //! Document 01, "What a rank holds" and "What a rank does", with request 2026-04: who reports to an undecided rank is owed.
 
-use crate::tree::{children, moved, parent, Set};
+use crate::tree::{children, mark_one, parent, Moved, Set};
 
 #[derive(Clone, Copy, PartialEq, Debug)]
 pub enum Phase {
@@ -29,11 +29,11 @@ pub struct Rank {
     pub result: u32,
 }
 
-/// What one rule did: the messages it sent, in order, and how many ranks moved.
+/// What one rule did: the messages it sent, in order, and who moved.
 #[derive(Default)]
 pub struct Done {
     pub sends: Vec<(u32, Body)>,
-    pub moved: u32,
+    pub moved: Moved,
 }
 
 impl Rank {
@@ -51,9 +51,7 @@ impl Rank {
     }
 
     fn mark(&mut self, q: u32, done: &mut Done) {
-        let before = self.marks.clone();
-        self.marks.insert(q);
-        done.moved += moved(self.n, &before, &self.marks);
+        mark_one(self.n, &mut self.marks, q, &mut done.moved);
     }
 
     fn decide(&mut self, x: u32, done: &mut Done) {

@@ -27,8 +27,24 @@ pub fn children(n: u32, marks: &Set, p: u32) -> Set {
 }
 
 /// The unmarked ranks, after the mark, whose parent is another one than before it.
-pub fn moved(n: u32, before: &Set, after: &Set) -> u32 {
-    (0..n).filter(|r| !after.contains(r) && parent(before, *r) != parent(after, *r)).count() as u32
+fn movers(n: u32, before: &Set, after: &Set) -> Set {
+    (0..n).filter(|r| !after.contains(r) && parent(before, *r) != parent(after, *r)).collect()
+}
+
+/// Who moved, and how many: of several marks the union, and the sum.
+#[derive(Clone, Default, PartialEq, Debug)]
+pub struct Moved {
+    pub ranks: Set,
+    pub count: u32,
+}
+
+/// Marks a rank; who moves by it joins those that have moved.
+pub fn mark_one(n: u32, marks: &mut Set, q: u32, moved: &mut Moved) {
+    let before = marks.clone();
+    marks.insert(q);
+    let movers = movers(n, &before, marks);
+    moved.count += movers.len() as u32;
+    moved.ranks.extend(movers);
 }
 
 #[cfg(test)]
@@ -40,21 +56,33 @@ mod tests {
         (0..n).map(|p| parent(&marks, p).unwrap_or(255)).collect()
     }
 
-    fn moves(before: &[u32], after: &[u32]) -> u32 {
-        moved(8, &before.iter().copied().collect(), &after.iter().copied().collect())
+    /// Who moves in a view of n ranks where these are marked one after the other, and how many.
+    fn moves(n: u32, before: &[u32], marked: impl IntoIterator<Item = u32>) -> (Vec<u32>, u32) {
+        let (mut marks, mut moved) = (before.iter().copied().collect(), Moved::default());
+        for q in marked {
+            mark_one(n, &mut marks, q, &mut moved);
+        }
+        (moved.ranks.into_iter().collect(), moved.count)
     }
 
     #[test]
     fn examples_1_to_6() {
         assert_eq!(table(8, &[]), [255, 0, 1, 1, 2, 2, 3, 3]);
         assert_eq!(table(8, &[1])[2..4], [0, 0]);
-        assert_eq!(moves(&[], &[1]), 2);
+        assert_eq!(moves(8, &[], [1]), (vec![2, 3], 2));
         assert_eq!(table(8, &[0])[1], 255);
-        assert_eq!(moves(&[], &[0]), 1);
+        assert_eq!(moves(8, &[], [0]), (vec![1], 1));
         assert_eq!(table(8, &[0, 1])[2..4], [255, 2]);
-        assert_eq!(moves(&[0], &[0, 1]), 2);
+        assert_eq!(moves(8, &[0], [1]), (vec![2, 3], 2));
         assert_eq!(table(8, &[0, 1, 2])[3..8], [255, 3, 3, 3, 3]);
-        assert_eq!(moves(&[0, 1], &[0, 1, 2]), 3);
-        assert_eq!(moves(&[0, 1, 2], &[0, 1, 2]), 0);
+        assert_eq!(moves(8, &[0, 1], [2]), (vec![3, 4, 5], 3));
+        assert_eq!(moves(8, &[0, 1, 2], [2]), (vec![], 0));
+    }
+
+    /// Request 2026-01: the marks of an ASK, where a rank moves and is then marked, and where one moves twice.
+    #[test]
+    fn union_and_sum() {
+        assert_eq!(moves(4, &[], 0..2), (vec![1, 2, 3], 3));
+        assert_eq!(moves(5, &[], 0..3), (vec![1, 2, 3, 4], 5));
     }
 }

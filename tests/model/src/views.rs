@@ -1,6 +1,6 @@
 //! Document 01's two calls on a view, mark and climb, with their refusals.
 
-use crate::tree::{moved, parent, Set};
+use crate::tree::{mark_one, parent, Moved, Set};
 use std::iter::successors;
 
 pub const NONE: u8 = 255;
@@ -21,12 +21,12 @@ pub struct Marked {
     pub number: u32,
     pub marks: Set,
     pub table: Table,
-    pub moved: u32,
+    pub moved: Moved,
 }
 
-/// The view with q marked, its fresh table and moved; a refusal hands back view and table with moved 0.
+/// The view with q marked, its fresh table and who moved; a refusal hands back view and table, and nobody moved.
 pub fn mark(n: u32, marks: &Set, table: &Table, q: u32) -> Marked {
-    let refused = |number| Marked { number, marks: marks.clone(), table: *table, moved: 0 };
+    let refused = |number| Marked { number, marks: marks.clone(), table: *table, moved: Moved::default() };
     if !is_size(n) {
         return refused(1);
     }
@@ -36,9 +36,9 @@ pub fn mark(n: u32, marks: &Set, table: &Table, q: u32) -> Marked {
     if q >= n {
         return refused(4);
     }
-    let mut after = marks.clone();
-    after.insert(q);
-    Marked { number: 0, table: fresh(n, &after), moved: moved(n, marks, &after), marks: after }
+    let (mut after, mut moved) = (marks.clone(), Moved::default());
+    mark_one(n, &mut after, q, &mut moved);
+    Marked { number: 0, table: fresh(n, &after), moved, marks: after }
 }
 
 #[derive(Clone, Copy, PartialEq, Debug)]
@@ -77,7 +77,7 @@ mod tests {
         let marks = marks.iter().copied().collect();
         let done = mark(8, &marks, &fresh(8, &marks), q);
         assert_eq!(done.number, 0);
-        (done.marks.into_iter().collect(), done.table, done.moved)
+        (done.marks.into_iter().collect(), done.table, done.moved.count)
     }
 
     fn table_of_8(parents: [u8; 8]) -> Table {
@@ -107,7 +107,7 @@ mod tests {
     fn refusals() {
         let marks = Set::from([1, 8]);
         let table = fresh(8, &marks);
-        let back = |number, table| Marked { number, marks: marks.clone(), table, moved: 0 };
+        let back = |number, table| Marked { number, marks: marks.clone(), table, moved: Moved::default() };
         assert_eq!(mark(65, &marks, &table, 65), back(1, table));
         assert_eq!(mark(8, &marks, &table, 8), back(2, table));
         assert_eq!(mark(9, &marks, &[NONE; 64], 9), back(2, [NONE; 64]));
@@ -121,6 +121,6 @@ mod tests {
     #[test]
     fn the_last_unmarked_rank() {
         let done = mark(1, &Set::new(), &[NONE; 64], 0);
-        assert_eq!(done, Marked { number: 0, marks: Set::from([0]), table: [NONE; 64], moved: 0 });
+        assert_eq!(done, Marked { number: 0, marks: Set::from([0]), table: [NONE; 64], moved: Moved::default() });
     }
 }
