@@ -1,5 +1,6 @@
 -- Demand 3 as theorems over the states that a group can be in: from an accepted start, by accepted events. Every such state is in order
--- (`Laws/Reached`), and what holds of any state in order is in `Laws/Moving` and `Laws/Answering`. Over any ancestor sets, save the last. Assumes nothing.
+-- (`Laws/Reached`), and what holds of any state in order is in `Laws/Moving` and `Laws/Answering`. Over any ancestor sets, save the last.
+-- Assumes nothing.
 use mathlib.Core.Path.{_≡_, sym, ap, subst}
 use mathlib.Core.Bool.{true, false, _||_}
 use Prim.Native.Nat.{ℕ, _^_, _≤_, _<_}

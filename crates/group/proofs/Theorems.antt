@@ -48,7 +48,7 @@ an-event-keeps-order = event-keeps-order
 pub a-refused-start-takes-no-event : (anc : ℕ → ℕ) (n kind a b : ℕ) → (started anc n .answer ≡ 0 → ⊥) → event anc (started anc n .state) kind a b ≡ refused 1 (started anc n .state)
 a-refused-start-takes-no-event = event-on-none
 
--- A refused event, on any state, gives its number, sent 0, nobody moved and the state unchanged in every field.
+-- A refused event, on any state, gives its number, sent 0, moved 0, of nobody, and the state unchanged in every field.
 pub a-refused-event-changes-nothing : (anc : ℕ → ℕ) (s : State) (kind a b : ℕ) → (event anc s kind a b .answer ≡ 0 → ⊥) → event anc s kind a b ≡ refused (event anc s kind a b .answer) s
 a-refused-event-changes-nothing = event-refused
 
@@ -87,8 +87,8 @@ module _ (anc : ℕ → ℕ) (n : ℕ) (s : State) (run : Reaches anc n s) (kind
   unfolding doing
   nothing-else-moves h k = moved-is anc s o kind a b z ∙ Knowing.other-calm anc _ _ b _ _ _ _ kind h (λ e. word-or-ask anc s o kind a b z e (k e)) .1
 
--- moved of a notice to rank a that rank b is dead is the set of ranks whose entries differ in the fresh tables with and without the mark, and
--- its size.
+-- moved of a notice to rank a that rank b is dead is the difference of the fresh tables with and without the mark: the set of the unmarked
+-- ranks whose entries differ, and its size.
 pub moved-of-a-notice : (anc : ℕ → ℕ) (n : ℕ) (s : State) → Reaches anc n s → (a b : ℕ) → event anc s 4 a b .answer ≡ 0 → event anc s 4 a b .moved ≡ moved anc n (rankAt s a .marks) b
 moved-of-a-notice anc n s run a b z = notice-answers anc s (reached-in-order anc n s run) a b z ∙ ap (λ (m : ℕ). moved anc m (rankAt s a .marks) b) (reached-size anc n s run)
 

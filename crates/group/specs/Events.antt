@@ -35,7 +35,7 @@ applied s place me p =
     })
     (set (s .tables) me (p .acted .row))
 
--- A refused event gives sent 0, nobody moved and the state unchanged in every field.
+-- A refused event gives sent 0, moved 0, of nobody, and the state unchanged in every field.
 unfoldable pub refused : ℕ → State → Stepped
 refused number s = record { answer = number; sent = 0; moved = nobody; state = s }
 

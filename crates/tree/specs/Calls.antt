@@ -44,8 +44,8 @@ same (x ∷ s) (y ∷ t) = eqb x y && same s t
 unfoldable pub wrongView : (ℕ → ℕ) → ℕ → ℕ → List ℕ → Bool
 wrongView anc n marks table = not (eqb (minus marks (below n)) 0) || not (same table (fresh anc n marks))
 
--- Marking takes a view, its table and a rank. A refusal hands back view and table unchanged with nobody moved; even the last
--- unmarked rank may be marked.
+-- Marking takes a view, its table and a rank. A refusal hands back view and table unchanged with moved 0, of nobody; even the
+-- last unmarked rank may be marked.
 unfoldable pub markRefused : ℕ → ℕ → List ℕ → Marked
 markRefused number marks table = record { answer = number; marks = marks; table = table; moved = nobody }
 

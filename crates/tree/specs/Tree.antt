@@ -40,12 +40,12 @@ entry anc n marks p = cond (ltb p n) (parent anc marks p) none
 unfoldable pub fresh : (ℕ → ℕ) → ℕ → ℕ → List ℕ
 fresh anc n marks = row (entry anc n marks) 64
 
--- The unmarked ranks whose entry changed, after the mark: the set that request 2026-01 asks for. Entries of marked ranks that pointed
--- at the newly marked one move too but are not in it.
+-- "Moved" counts the unmarked ranks whose entry changed, after the mark. Entries of marked ranks that pointed at the newly
+-- marked one move too but are not counted.
 unfoldable pub moves : (ℕ → ℕ) → ℕ → ℕ → ℕ → Bool
 moves anc marks q p = not (has (add marks q) p) && not (eqb (parent anc (add marks q) p) (parent anc marks p))
 
--- "Moved" is that set with its size. Where nobody moved, the set is empty and the count 0.
+-- Request 2026-01: it is the set of these ranks, and the count is the set's size. Where nobody moved, it is the empty set and 0.
 unfoldable pub sized : ℕ → Moved
 sized w = record { ranks = w; count = count (has w) 64 }
 
