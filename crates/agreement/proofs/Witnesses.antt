@@ -16,7 +16,7 @@ use Rattle.sets.proofs.Laws.Searches.{every-at, every-i}
 use Rattle.sets.specs.Sets.{has, only, union, meet, minus, add, below, setOf, count, largest, smallest, listed, every, all}
 use Rattle.tree.proofs.Laws.Rows.{same-eq}
 use Rattle.tree.specs.Calls.{andThen, movedBelow, wrongSize, same}
-use Rattle.tree.specs.Tree.{halvings, flat, parent, children, row, entry, fresh, moves, sized, moved}
+use Rattle.tree.specs.Tree.{lineage, ancestors, half, flat, parent, children, row, entry, fresh, moves, sized, moved}
 use Rattle.rank.specs.Records.{becoming, combining, concluding, owing, parentOf, childrenOf, awaiting, freshRank, hearing, viewing}
 use Rattle.rank.specs.Rules.{inPhase, saying, deciding, settled, done, settling, entering, noting, raised, takingUp, lowered, takingDown, asked, takingAsk, renewing, regathering, orphaned, inheriting, bereaved, noticing}
 use Rattle.rank.specs.Sends.{silent, reports, tells, asks, letter, letters}
@@ -40,7 +40,7 @@ use Rattle.agreement.specs.Agreement.{isEntry, hasEntered, wordOf}
 use Rattle.agreement.specs.Witnesses.{mourned, absent, busy, untold, bereft, slice, runs, ended, isQuiet, allEntered, allDeathsKnown, allDecided, shown, LivesWith, DiedWith, witnesses}
 
 pub the-tests-pass : all witnesses ≡ true
-unfolding has only union meet minus add below setOf count largest smallest listed every all andThen movedBelow wrongSize same halvings flat parent children row entry fresh moves sized moved proper clauses rankInOrder becoming combining concluding owing parentOf childrenOf awaiting freshRank hearing viewing inPhase saying deciding settled done settling entering noting raised takingUp lowered takingDown asked takingAsk renewing regathering orphaned inheriting bereaved noticing silent reports tells asks letter letters combine subject refusing accepting afterwards fitting delivered acting planned posted joining applied refused carried subjectOf planOf stepped padded without isWithin memberInOrder zeroRecord strangerInOrder seatInOrder seatInOrderAt messageInOrder zeroPlace placeInOrder placeInOrderAt inOrder event namesRank namesPlace wrongKind wrongRank noMessage isDead notOutside isLiving isLast bothLive lateRefusal refusal firstRank firstRow freshState started byteAt shortAt numberAt eventAt eventsIn wrongMark wrongVersion broken header numberOf written stepAt played refusedRun acceptedRun opened run then file three mourned absent busy untold bereft slice runs ended isQuiet allEntered allDeathsKnown allDecided shown witnesses
+unfolding has only union meet minus add below setOf count largest smallest listed every all andThen movedBelow wrongSize same lineage ancestors half flat parent children row entry fresh moves sized moved proper clauses rankInOrder becoming combining concluding owing parentOf childrenOf awaiting freshRank hearing viewing inPhase saying deciding settled done settling entering noting raised takingUp lowered takingDown asked takingAsk renewing regathering orphaned inheriting bereaved noticing silent reports tells asks letter letters combine subject refusing accepting afterwards fitting delivered acting planned posted joining applied refused carried subjectOf planOf stepped padded without isWithin memberInOrder zeroRecord strangerInOrder seatInOrder seatInOrderAt messageInOrder zeroPlace placeInOrder placeInOrderAt inOrder event namesRank namesPlace wrongKind wrongRank noMessage isDead notOutside isLiving isLast bothLive lateRefusal refusal firstRank firstRow freshState started byteAt shortAt numberAt eventAt eventsIn wrongMark wrongVersion broken header numberOf written stepAt played refusedRun acceptedRun opened run then file three mourned absent busy untold bereft slice runs ended isQuiet allEntered allDeathsKnown allDecided shown witnesses
 the-tests-pass = refl
 
 -- ---- from the tests to the words

@@ -3,7 +3,7 @@ use mathlib.Core.Path.{_≡_, refl}
 use mathlib.Core.Bool.{true}
 use Rattle.sets.specs.Sets.{has, only, union, meet, minus, add, below, setOf, count, largest, smallest, listed, every, all}
 use Rattle.tree.specs.Calls.{mended, andThen, movedBelow, mendedBelow, wrongSize, same}
-use Rattle.tree.specs.Tree.{halvings, flat, parent, children, row, entry, fresh, moves, sized, moved}
+use Rattle.tree.specs.Tree.{lineage, ancestors, half, flat, parent, children, row, entry, fresh, moves, sized, moved}
 use Rattle.tree.specs.Examples.{tallies}
 use Rattle.rank.specs.Records.{becoming, combining, concluding, owing, parentOf, childrenOf, awaiting, freshRank, hearing, viewing}
 use Rattle.rank.specs.Rules.{inPhase, saying, deciding, settled, done, settling, entering, noting, raised, takingUp, lowered, takingDown, asked, takingAsk, renewing, regathering, orphaned, inheriting, bereaved, noticing}
@@ -25,5 +25,5 @@ use Rattle.listing.specs.Listings.{lines, rankLines, listing, reportOf, 
 use Rattle.listing.specs.Witnesses.{threeListing, later, seen, goes, one, two, reporting, widowed, extinct, crowded, four, five, movesThese, refuses, leaves, witnesses}
 
 pub nothing-is-vacuous : all witnesses ≡ true
-unfolding has only union meet minus add below setOf count largest smallest listed every all mended andThen movedBelow mendedBelow wrongSize same halvings flat parent children row entry fresh moves sized moved proper clauses rankInOrder becoming combining concluding owing parentOf childrenOf awaiting freshRank hearing viewing inPhase saying deciding settled done settling entering noting raised takingUp lowered takingDown asked takingAsk renewing regathering orphaned inheriting bereaved noticing silent reports tells asks letter letters combine subject refusing accepting afterwards fitting delivered acting planned posted joining applied refused carried subjectOf planOf stepped padded without isWithin memberInOrder zeroRecord strangerInOrder seatInOrder seatInOrderAt messageInOrder zeroPlace placeInOrder placeInOrderAt inOrder event namesRank namesPlace wrongKind wrongRank noMessage isDead notOutside isLiving isLast bothLive lateRefusal refusal firstRank firstRow freshState emptyState started byteAt shortAt numberAt eventAt eventsIn wrongMark wrongVersion broken header numberOf digitsOf decimal field firstLine eventLine living resultField rankLine lastLine lines rankLines listing refusedLine reportOf report written stepAt played refusedRun acceptedRun opened run then file three threeListing later seen goes one two reporting widowed extinct crowded four five movesThese tallies refuses leaves witnesses
+unfolding has only union meet minus add below setOf count largest smallest listed every all mended andThen movedBelow mendedBelow wrongSize same lineage ancestors half flat parent children row entry fresh moves sized moved proper clauses rankInOrder becoming combining concluding owing parentOf childrenOf awaiting freshRank hearing viewing inPhase saying deciding settled done settling entering noting raised takingUp lowered takingDown asked takingAsk renewing regathering orphaned inheriting bereaved noticing silent reports tells asks letter letters combine subject refusing accepting afterwards fitting delivered acting planned posted joining applied refused carried subjectOf planOf stepped padded without isWithin memberInOrder zeroRecord strangerInOrder seatInOrder seatInOrderAt messageInOrder zeroPlace placeInOrder placeInOrderAt inOrder event namesRank namesPlace wrongKind wrongRank noMessage isDead notOutside isLiving isLast bothLive lateRefusal refusal firstRank firstRow freshState emptyState started byteAt shortAt numberAt eventAt eventsIn wrongMark wrongVersion broken header numberOf digitsOf decimal field firstLine eventLine living resultField rankLine lastLine lines rankLines listing refusedLine reportOf report written stepAt played refusedRun acceptedRun opened run then file three threeListing later seen goes one two reporting widowed extinct crowded four five movesThese tallies refuses leaves witnesses
 nothing-is-vacuous = refl

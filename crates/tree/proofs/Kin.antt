@@ -5,11 +5,21 @@ use mathlib.Core.Bool.{true}
 use mathlib.Core.Logic.{_⊎_}
 use Rattle.sets.specs.Sets.{has}
 use Rattle.tree.specs.Tree.{children}
-use Rattle.tree.specs.Relations.{Above}
+use Rattle.tree.specs.Relations.{Above, Ancestry, Chained}
 
 -- Rank 0 is an ancestor of every other rank.
 abbrev pub Rooted : (ℕ → ℕ) → Type 0
 Rooted anc = (p : ℕ) → 0 < p → Above anc p 0
+
+-- What a tree must have, all of it.
+pub record IsTree (anc : ℕ → ℕ) : Type 0 where
+  pub ancestry : Ancestry anc
+  pub chained : Chained anc
+  pub rooted : Rooted anc
+
+-- The rank next above is smaller, whichever rank but 0 it is asked of.
+abbrev pub Smaller : (ℕ → ℕ) → Type 0
+Smaller above = (p : ℕ) → 0 < p → above p < p
 
 -- x is c, or has c as an ancestor.
 abbrev pub Under : (ℕ → ℕ) → ℕ → ℕ → Type 0

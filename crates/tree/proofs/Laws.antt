@@ -2,7 +2,9 @@
 pub mod Rows
 pub mod Parents
 pub mod Children
+pub mod Ancestors
 pub mod Flat
+pub mod Finding
 pub mod Mending
 pub mod Climbing
 pub mod Calls

@@ -9,15 +9,22 @@ use lib.ListN.{length, getD}
 use Rattle.sets.specs.Sets.{none, has, add, setOf, count, largest, smallest}
 use Rattle.tree.specs.declared.Moved.{Moved}
 
--- The ancestors of p are floor(p/2^i) for i from 1, up to and including 0; rank 0 has none.
--- So p > 0 has p / 2 and the ancestors of p / 2. The first number bounds how often p is halved; p itself is enough.
-unfoldable pub halvings : ℕ → ℕ → ℕ
-halvings zero p = 0
-halvings (suc d) zero = 0
-halvings (suc d) (suc p) = add (halvings d (suc p / 2)) (suc p / 2)
+-- A tree says which rank stands next above each rank but 0, and it is a smaller one. The ancestors of p are the rank above p and that
+-- one's ancestors; rank 0 has none. The first number bounds the steps up; p itself is enough, as each ends at a smaller rank.
+unfoldable pub lineage : (ℕ → ℕ) → ℕ → ℕ → ℕ
+lineage above zero p = 0
+lineage above (suc d) zero = 0
+lineage above (suc d) (suc p) = add (lineage above d (above (suc p))) (above (suc p))
+
+unfoldable pub ancestors : (ℕ → ℕ) → ℕ → ℕ
+ancestors above p = lineage above p p
+
+-- The flat tree: the rank above p is half of p. So the ancestors of p are floor(p/2^i) for i from 1, up to and including 0.
+unfoldable pub half : ℕ → ℕ
+half p = p / 2
 
 unfoldable pub flat : ℕ → ℕ
-flat p = halvings p p
+flat = ancestors half
 
 -- The parent of p, marked or not: the largest unmarked ancestor, if there is one; else the smallest unmarked rank below p,
 -- if there is one; else none, written 255.

@@ -2,75 +2,8 @@
 // Entry points for callers are mark and climb; they refuse bad input and require nothing.
 ghost use mathlib.Core.Path.{_≡_};
 ghost use Prim.Native.Nat.{_+_, _<_, _≤_};
-ghost use Rattle.tree.specs.Tree.{children, flat, fresh, parent, sized, nobody};
+ghost use Rattle.tree.specs.Tree.{children, flat, fresh, half, parent, sized, nobody};
 ghost use Rattle.tree.specs.Calls.{andThen, climbed, marked, mended, mendedBelow, markRefused, climbing, same, told, wrongSize};
-
-const ANCESTORS: [u64; 64] = [
-    0x0,
-    0x1,
-    0x3,
-    0x3,
-    0x7,
-    0x7,
-    0xb,
-    0xb,
-    0x17,
-    0x17,
-    0x27,
-    0x27,
-    0x4b,
-    0x4b,
-    0x8b,
-    0x8b,
-    0x117,
-    0x117,
-    0x217,
-    0x217,
-    0x427,
-    0x427,
-    0x827,
-    0x827,
-    0x104b,
-    0x104b,
-    0x204b,
-    0x204b,
-    0x408b,
-    0x408b,
-    0x808b,
-    0x808b,
-    0x10117,
-    0x10117,
-    0x20117,
-    0x20117,
-    0x40217,
-    0x40217,
-    0x80217,
-    0x80217,
-    0x100427,
-    0x100427,
-    0x200427,
-    0x200427,
-    0x400827,
-    0x400827,
-    0x800827,
-    0x800827,
-    0x100104b,
-    0x100104b,
-    0x200104b,
-    0x200104b,
-    0x400204b,
-    0x400204b,
-    0x800204b,
-    0x800204b,
-    0x1000408b,
-    0x1000408b,
-    0x2000408b,
-    0x2000408b,
-    0x4000808b,
-    0x4000808b,
-    0x8000808b,
-    0x8000808b,
-];
 
 // The unmarked ranks that moved, and how many; of several marks the union and the sum.
 pub struct Moved {
@@ -132,12 +65,25 @@ impl Moved {
     }
 }
 
-// The ancestor set of p.
+// The rank next above p, for any p but 0: half of p.
+fn above(p: u8) -> u8
+    ensures { λ r. ⌜ r ≡ half p ⌝ }
+{
+    p / 2
+}
+
+// The ancestor set of p: the rank above p, and that one's ancestors.
 pub fn ancestors(p: u8) -> u64
     requires { ⌜ p < 64 ⌝ }
     ensures { λ r. ⌜ r ≡ flat p ⌝ }
 {
-    ANCESTORS[p as usize]
+    let mut line: u64 = 0;
+    let mut at = p;
+    while at != 0 {
+        at = above(at);
+        line = sets::with(line, at);
+    }
+    line
 }
 
 // The parent of p: the nearest unmarked ancestor, else the lowest unmarked rank below p, else NONE.

@@ -296,6 +296,28 @@ add-again w p h = ext (add w p) w (λ k. same-test (has (add w p) k) (has w k) (
     was : (k : ℕ) → has (add w p) k ≡ true → has w k ≡ true
     was k t = ⊎-elim (λ (q : has w k ≡ true). q) (λ (q : eqb k p ≡ true). ap (has w) (eqb-true k p q) ∙ h) (or-cases (has w k) (eqb k p) (sym (has-add w p k) ∙ t))
 
+pub union-none : (w : ℕ) → union w 0 ≡ w
+union-none w = ext (union w 0) w (λ k. has-union w 0 k ∙ ap (λ (b : Bool). has w k || b) (has-zero k) ∙ or-false-r (has w k))
+
+pub none-union : (w : ℕ) → union 0 w ≡ w
+none-union w = ext (union 0 w) w (λ k. has-union 0 w k ∙ ap (λ (b : Bool). b || has w k) (has-zero k))
+
+-- of two sets that are united it is the same which of them a rank joins
+pub union-add : (a b p : ℕ) → union (add a p) b ≡ union a (add b p)
+union-add a b p = ext (union (add a p) b) (union a (add b p)) (λ k. same k)
+  where
+    swap : (x y z : Bool) → x || y || z ≡ x || (z || y)
+    swap true y z = refl
+    swap false true true = refl
+    swap false true false = refl
+    swap false false true = refl
+    swap false false false = refl
+
+    same : (k : ℕ) → has (union (add a p) b) k ≡ has (union a (add b p)) k
+    same k =
+        has-union (add a p) b k ∙ ap (λ (x : Bool). x || has b k) (has-add a p k) ∙ swap (has a k) (eqb k p) (has b k)
+        ∙ sym (has-union a (add b p) k ∙ ap (λ (x : Bool). has a k || x) (has-add b p k))
+
 -- a set of ranks below n, cut to those, is itself
 pub meet-below : (w n : ℕ) → ((k : ℕ) → has w k ≡ true → k < n) → meet w (below n) ≡ w
 meet-below w n h = ext (meet w (below n)) w (λ k. has-meet w (below n) k ∙ same-test (has w k && has (below n) k) (has w k) (and-l (has w k) (has (below n) k)) (λ t. and-i (has w k) (has (below n) k) t (has-below-lt n k (h k t))))
@@ -316,7 +338,8 @@ union-below-suc w k = ext (add (union w (below k)) k) (union w (below (suc k))) 
         assoc false b c = refl
 
 pub union-below-zero : (w : ℕ) → union w (below 0) ≡ w
-union-below-zero w = ext (union w (below 0)) w (λ k. has-union w (below 0) k ∙ ap (λ (b : Bool). has w k || b) (has-below-ge 0 k (omega arith)) ∙ or-false-r (has w k))
+unfolding below
+union-below-zero w = union-none w
 
 -- ---- the processor's own operations, at n digits
 

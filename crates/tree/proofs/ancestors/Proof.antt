@@ -1,21 +1,39 @@
--- `tree::ancestors` meets its contract: the constant table is the row of the flat tree's ancestor sets, which antt computes once,
--- and a row has at each place the value of its function. Assumes nothing.
+-- `tree::ancestors` meets its contract. The invariant: what is gathered, and the ancestors of the rank reached, are those of p. The measure is
+-- that rank, as the rank above is smaller. Assumes nothing.
+use native.Mathlib.Omega.{arith}
 use borrow.Author.Needs.{needs}
-use Rattle.sets.specs.Sets.{add, union, only}
-use Rattle.tree.specs.Tree.{halvings, flat, row}
-use Rattle.tree.proofs.Laws.Rows.{getD-row}
+use Rattle.tree.specs.Tree.{half, flat}
+use Rattle.tree.proofs.Laws.Ancestors.{Gathering, gathering-start, gathering-step, gathering-less, gathering-within, gathering-end}
+use Rattle.tree.proofs.Laws.Flat.{half-smaller}
 use Rattle.tree.proofs.ancestors.Statement.{statement}
 use Rattle.tree.proofs.ancestors.Tie as tie
 
-mul-result : tie.Need-mul-result
-mul-result c = search needs
+abbrev Inv-loop : tie.InvT-loop
+Inv-loop p line₀ at₀ line at = Gathering half p at line
 
-array-read-result : tie.Need-array-read-result
-array-read-result c = search needs
+abbrev μ-loop : tie.MeasureT-loop
+μ-loop p line₀ at₀ line at = at
 
-returns : tie.Need-returns
-unfolding row flat halvings add union only
-returns c = getD-row flat 64 (c .args .p) 0 (c .pre)
+loop-holds : tie.Need-loop-holds Inv-loop μ-loop
+loop-holds c = search (gathering-start half half-smaller)
+
+above-requires : tie.Need-above-requires Inv-loop μ-loop
+above-requires c κs = search needs
+
+with-requires : tie.Need-with-requires Inv-loop μ-loop
+with-requires c κs = gathering-within half half-smaller _ _ _ _ _ (c .before .before .loop .inv) (omega arith) (c .above .ensures) (c .before .before .before .pre)
+
+loop-less : tie.Need-loop-less Inv-loop μ-loop
+loop-less c = gathering-less half half-smaller _ _ (omega arith) (c .before .above .ensures)
+
+loop-again : tie.Need-loop-again Inv-loop μ-loop
+loop-again c = gathering-step half half-smaller _ _ _ _ _ (c .before .before .before .loop .inv) (omega arith) (c .before .above .ensures) (c .with .ensures)
+
+returns : tie.Need-returns Inv-loop μ-loop
+unfolding flat
+returns c = gathering-end half half-smaller _ _ _ (c .before .loop .inv) (omega arith)
 
 pub ancestors-spec : {M : Type 1} → statement M
-ancestors-spec = tie.close (tie.spec mul-result array-read-result returns)
+ancestors-spec =
+    tie.close
+    (tie.spec Inv-loop μ-loop loop-holds above-requires with-requires loop-less loop-again returns)

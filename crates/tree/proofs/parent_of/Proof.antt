@@ -1,7 +1,9 @@
 -- `tree::parent_of` meets its contract: where an ancestor is unmarked, the largest such member is the parent; else the smallest
 -- unmarked member below. Assumes nothing.
 use borrow.Author.Needs.{needs}
-use Rattle.tree.proofs.Laws.Flat.{finds-nearest, finds-lowest}
+use Rattle.tree.specs.Tree.{flat}
+use Rattle.tree.proofs.Laws.Flat.{flat-ancestry}
+use Rattle.tree.proofs.Laws.Finding.{finds-nearest, finds-lowest}
 use Rattle.tree.proofs.parent_of.Statement.{statement}
 use Rattle.tree.proofs.parent_of.Tie as tie
 
@@ -15,7 +17,7 @@ largest-requires : tie.Need-largest-requires
 largest-requires c κs = search needs
 
 returns : tie.Need-returns
-returns c = search finds-nearest
+returns c = search (finds-nearest flat flat-ancestry)
 
 below-requires : tie.Need-below-requires
 below-requires c κs = search needs
@@ -27,7 +29,7 @@ smallest-requires : tie.Need-smallest-requires
 smallest-requires c κs = search needs
 
 returns-2 : tie.Need-returns-2
-returns-2 c = search finds-lowest
+returns-2 c = search (finds-lowest flat flat-ancestry)
 
 pub parent-of-spec : {M : Type 1} → statement M
 parent-of-spec =

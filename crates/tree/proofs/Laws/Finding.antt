@@ -1,0 +1,64 @@
+-- How a parent is found, by the words' own members, over any ancestors that are smaller: the largest unmarked ancestor, else the smallest
+-- unmarked rank below. Assumes nothing.
+use mathlib.Core.Path.{_≡_, sym, ap, _∙_}
+use mathlib.Core.Bool.{true, false}
+use Prim.Native.Nat.{ℕ, _≤_, _<_}
+use native.Mathlib.Omega.{arith}
+use borrow.Author.Tests.{ltb-true}
+use Rattle.sets.specs.Sets.{none, has, minus, below, largest, smallest}
+use Rattle.sets.proofs.Laws.Bools.{clash}
+use Rattle.sets.proofs.Laws.Members.{has-zero, minus-l, minus-r, minus-not, has-below-lt, has-below, none-in}
+use Rattle.sets.proofs.Laws.Searches.{TopOf, LeastOf, top, least, largest-cases, smallest-cases}
+use Rattle.tree.specs.Tree.{parent}
+use Rattle.tree.specs.Relations.{Above, Ancestry}
+use Rattle.tree.proofs.Laws.Parents.{Marked, nearest, lowest, nobody, parent-is}
+
+module _ (anc : ℕ → ℕ) (tree : Ancestry anc) where
+  -- the nearest: the set of unmarked ancestors is not empty
+  nearest-member : (marks p m : ℕ) → p ≤ m → (minus (anc p) marks ≡ 0 → ⊥) → largest (has (minus (anc p) marks)) m none ≡ parent anc marks p
+  nearest-member marks p m l h = go (largest (has near) m none) (largest-cases (has near) m none)
+    where
+      near : ℕ
+      near = minus (anc p) marks
+
+      above : (k : ℕ) → has near k ≡ true → Above anc p k
+      above k t = minus-l (anc p) marks k t
+
+      go : (r : ℕ) → TopOf (has near) m none r → r ≡ parent anc marks p
+      go r (top t) =
+          let u : Above anc p r = above r (t .passes) in
+          sym (parent-is anc marks p r (nearest (tree .smaller p r u) u (minus-r (anc p) marks r (t .passes)) (λ k a b v. minus-not (anc p) marks k (t .last k a (omega arith)) v)))
+      go r (TopOf.empty e) = absurd (h (none-in near (λ k t. clash (has near k) t (e k (let s : k < p = tree .smaller p k (above k t) in omega arith)))))
+
+  -- the lowest: no ancestor is unmarked
+  lowest-member : (marks p m : ℕ) → p ≤ m → minus (anc p) marks ≡ 0 → smallest (has (minus (below p) marks)) m none ≡ parent anc marks p
+  lowest-member marks p m l e = go (smallest (has low) m none) (smallest-cases (has low) m none)
+    where
+      low : ℕ
+      low = minus (below p) marks
+
+      marked : (k : ℕ) → k < p → has low k ≡ false → Marked marks k
+      marked k b t = minus-not (below p) marks k t (has-below-lt p k b)
+
+      within : (k : ℕ) → has low k ≡ true → k < p
+      within k t = ltb-true k p (sym (has-below p k) ∙ minus-l (below p) marks k t)
+
+      ancestor : (k : ℕ) → k < p → Above anc p k → Marked marks k
+      ancestor k b u = minus-not (anc p) marks k (ap (λ (w : ℕ). has w k) e ∙ has-zero k) u
+
+      go : (r : ℕ) → LeastOf (has low) m none r → r ≡ parent anc marks p
+      go r (least s) =
+          let b : r < p = within r (s .passes) in
+          sym (parent-is anc marks p r (lowest b (minus-r (below p) marks r (s .passes)) (λ k c. marked k (omega arith) (s .first k c)) ancestor))
+      go r (LeastOf.empty f) = sym (parent-is anc marks p r (nobody (λ k b. marked k b (f k (omega arith)))))
+
+  -- along the code: the ancestors of p, those unmarked, and what is found among them or below p
+  pub finds-nearest : (marks p m line near r : ℕ) → p < m → line ≡ anc p → near ≡ minus line marks → (near ≡ 0 → ⊥) → r ≡ largest (has near) m none → r ≡ parent anc marks p
+  finds-nearest marks p m line near r l a e h f =
+      let s : near ≡ minus (anc p) marks = e ∙ ap (λ (x : ℕ). minus x marks) a in
+      f ∙ ap (λ (x : ℕ). largest (has x) m none) s ∙ nearest-member marks p m (omega arith) (λ z. h (s ∙ z))
+
+  pub finds-lowest : (marks p m line near under low r : ℕ) → p < m → line ≡ anc p → near ≡ minus line marks → near ≡ 0 → under ≡ below p → low ≡ minus under marks → r ≡ smallest (has low) m none → r ≡ parent anc marks p
+  finds-lowest marks p m line near under low r l a e z u v f =
+      f ∙ ap (λ (x : ℕ). smallest (has x) m none) (v ∙ ap (λ (x : ℕ). minus x marks) u)
+      ∙ lowest-member marks p m (omega arith) (sym (e ∙ ap (λ (x : ℕ). minus x marks) a) ∙ z)
