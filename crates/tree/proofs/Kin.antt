@@ -1,4 +1,4 @@
--- The proofs' own words for who stands above whom, over any ancestor sets.
+-- The proofs' own words for who stands above whom, over any ancestor sets or any rank next above.
 use Prim.Native.Nat.{ℕ, _<_}
 use mathlib.Core.Path.{_≡_}
 use mathlib.Core.Bool.{true}
@@ -11,13 +11,13 @@ use Rattle.tree.specs.Relations.{Above, Ancestry, Chained}
 abbrev pub Rooted : (ℕ → ℕ) → Type 0
 Rooted anc = (p : ℕ) → 0 < p → Above anc p 0
 
--- What a tree must have, all of it.
+-- What a tree must have: ancestors are smaller, theirs are ancestors too, they form a chain, and 0 is above all.
 pub record IsTree (anc : ℕ → ℕ) : Type 0 where
   pub ancestry : Ancestry anc
   pub chained : Chained anc
   pub rooted : Rooted anc
 
--- The rank next above is smaller, whichever rank but 0 it is asked of.
+-- The rank next above is smaller, for every rank but 0.
 abbrev pub Smaller : (ℕ → ℕ) → Type 0
 Smaller above = (p : ℕ) → 0 < p → above p < p
 

@@ -1,4 +1,4 @@
--- All that the crates above cite of the tree.
+-- All that the crates above may cite of the tree.
 pub mod Rows
 pub mod Parents
 pub mod Children

@@ -1,5 +1,6 @@
 -- The tree. A view is the set of ranks marked dead, in a group of n ranks numbered 0 to n - 1.
--- Everything is said over any ancestor sets `anc`, a word for each rank; the flat tree is one instance.
+-- Ancestors are said over any `above`, the rank next above each, and all else over any ancestor sets `anc`, a word for each rank;
+-- the flat tree is one instance.
 use Prim.Native.Nat.{ℕ, zero, suc, _/_, _^_, _<_}
 use mathlib.Core.Path.{_≡_}
 use mathlib.Core.Bool.{Bool, false, cond, not, _&&_}
@@ -19,7 +20,8 @@ lineage above (suc d) (suc p) = add (lineage above d (above (suc p))) (above (su
 unfoldable pub ancestors : (ℕ → ℕ) → ℕ → ℕ
 ancestors above p = lineage above p p
 
--- The flat tree: the rank above p is half of p. So the ancestors of p are floor(p/2^i) for i from 1, up to and including 0.
+-- The flat tree: the rank above p is half of p. So the ancestors of p are floor(p/2^i) for i from 1, up to and including 0;
+-- rank 0 has none.
 unfoldable pub half : ℕ → ℕ
 half p = p / 2
 

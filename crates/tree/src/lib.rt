@@ -77,13 +77,13 @@ pub fn ancestors(p: u8) -> u64
     requires { ⌜ p < 64 ⌝ }
     ensures { λ r. ⌜ r ≡ flat p ⌝ }
 {
-    let mut line: u64 = 0;
+    let mut found: u64 = 0;
     let mut at = p;
-    while at != 0 {
+    while 0 < at {
         at = above(at);
-        line = sets::with(line, at);
+        found = sets::with(found, at);
     }
-    line
+    found
 }
 
 // The parent of p: the nearest unmarked ancestor, else the lowest unmarked rank below p, else NONE.

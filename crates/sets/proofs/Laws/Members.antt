@@ -303,8 +303,8 @@ pub none-union : (w : ℕ) → union 0 w ≡ w
 none-union w = ext (union 0 w) w (λ k. has-union 0 w k ∙ ap (λ (b : Bool). b || has w k) (has-zero k))
 
 -- of two sets that are united it is the same which of them a rank joins
-pub union-add : (a b p : ℕ) → union (add a p) b ≡ union a (add b p)
-union-add a b p = ext (union (add a p) b) (union a (add b p)) (λ k. same k)
+pub add-across : (a b p : ℕ) → union (add a p) b ≡ union a (add b p)
+add-across a b p = ext (union (add a p) b) (union a (add b p)) (λ k. same k)
   where
     swap : (x y z : Bool) → x || y || z ≡ x || (z || y)
     swap true y z = refl

@@ -1,5 +1,5 @@
--- How a parent is found, by the words' own members, over any ancestors that are smaller: the largest unmarked ancestor, else the smallest
--- unmarked rank below. Assumes nothing.
+-- How a parent is found, by the words' own members: the largest unmarked ancestor, where ancestors are smaller; else the smallest unmarked
+-- rank below, over any ancestor sets. Assumes nothing.
 use mathlib.Core.Path.{_≡_, sym, ap, _∙_}
 use mathlib.Core.Bool.{true, false}
 use Prim.Native.Nat.{ℕ, _≤_, _<_}
@@ -10,10 +10,10 @@ use Rattle.sets.proofs.Laws.Bools.{clash}
 use Rattle.sets.proofs.Laws.Members.{has-zero, minus-l, minus-r, minus-not, has-below-lt, has-below, none-in}
 use Rattle.sets.proofs.Laws.Searches.{TopOf, LeastOf, top, least, largest-cases, smallest-cases}
 use Rattle.tree.specs.Tree.{parent}
-use Rattle.tree.specs.Relations.{Above, Ancestry}
+use Rattle.tree.specs.Relations.{Above}
 use Rattle.tree.proofs.Laws.Parents.{Marked, nearest, lowest, nobody, parent-is}
 
-module _ (anc : ℕ → ℕ) (tree : Ancestry anc) where
+module _ (anc : ℕ → ℕ) (smaller : (p a : ℕ) → Above anc p a → a < p) where
   -- the nearest: the set of unmarked ancestors is not empty
   nearest-member : (marks p m : ℕ) → p ≤ m → (minus (anc p) marks ≡ 0 → ⊥) → largest (has (minus (anc p) marks)) m none ≡ parent anc marks p
   nearest-member marks p m l h = go (largest (has near) m none) (largest-cases (has near) m none)
@@ -21,15 +21,22 @@ module _ (anc : ℕ → ℕ) (tree : Ancestry anc) where
       near : ℕ
       near = minus (anc p) marks
 
-      above : (k : ℕ) → has near k ≡ true → Above anc p k
-      above k t = minus-l (anc p) marks k t
+      is-above : (k : ℕ) → has near k ≡ true → Above anc p k
+      is-above k t = minus-l (anc p) marks k t
 
       go : (r : ℕ) → TopOf (has near) m none r → r ≡ parent anc marks p
       go r (top t) =
-          let u : Above anc p r = above r (t .passes) in
-          sym (parent-is anc marks p r (nearest (tree .smaller p r u) u (minus-r (anc p) marks r (t .passes)) (λ k a b v. minus-not (anc p) marks k (t .last k a (omega arith)) v)))
-      go r (TopOf.empty e) = absurd (h (none-in near (λ k t. clash (has near k) t (e k (let s : k < p = tree .smaller p k (above k t) in omega arith)))))
+          let u : Above anc p r = is-above r (t .passes) in
+          sym (parent-is anc marks p r (nearest (smaller p r u) u (minus-r (anc p) marks r (t .passes)) (λ k a b v. minus-not (anc p) marks k (t .last k a (omega arith)) v)))
+      go r (TopOf.empty e) = absurd (h (none-in near (λ k t. clash (has near k) t (e k (let s : k < p = smaller p k (is-above k t) in omega arith)))))
 
+  -- along the code: the ancestors of p, those unmarked, and what is found among them
+  pub finds-nearest : (marks p m line near r : ℕ) → p < m → line ≡ anc p → near ≡ minus line marks → (near ≡ 0 → ⊥) → r ≡ largest (has near) m none → r ≡ parent anc marks p
+  finds-nearest marks p m line near r l a e h f =
+      let s : near ≡ minus (anc p) marks = e ∙ ap (λ (x : ℕ). minus x marks) a in
+      f ∙ ap (λ (x : ℕ). largest (has x) m none) s ∙ nearest-member marks p m (omega arith) (λ z. h (s ∙ z))
+
+module _ (anc : ℕ → ℕ) where
   -- the lowest: no ancestor is unmarked
   lowest-member : (marks p m : ℕ) → p ≤ m → minus (anc p) marks ≡ 0 → smallest (has (minus (below p) marks)) m none ≡ parent anc marks p
   lowest-member marks p m l e = go (smallest (has low) m none) (smallest-cases (has low) m none)
@@ -52,12 +59,7 @@ module _ (anc : ℕ → ℕ) (tree : Ancestry anc) where
           sym (parent-is anc marks p r (lowest b (minus-r (below p) marks r (s .passes)) (λ k c. marked k (omega arith) (s .first k c)) ancestor))
       go r (LeastOf.empty f) = sym (parent-is anc marks p r (nobody (λ k b. marked k b (f k (omega arith)))))
 
-  -- along the code: the ancestors of p, those unmarked, and what is found among them or below p
-  pub finds-nearest : (marks p m line near r : ℕ) → p < m → line ≡ anc p → near ≡ minus line marks → (near ≡ 0 → ⊥) → r ≡ largest (has near) m none → r ≡ parent anc marks p
-  finds-nearest marks p m line near r l a e h f =
-      let s : near ≡ minus (anc p) marks = e ∙ ap (λ (x : ℕ). minus x marks) a in
-      f ∙ ap (λ (x : ℕ). largest (has x) m none) s ∙ nearest-member marks p m (omega arith) (λ z. h (s ∙ z))
-
+  -- along the code: no ancestor is unmarked, the ranks below p, those unmarked, and what is found among them
   pub finds-lowest : (marks p m line near under low r : ℕ) → p < m → line ≡ anc p → near ≡ minus line marks → near ≡ 0 → under ≡ below p → low ≡ minus under marks → r ≡ smallest (has low) m none → r ≡ parent anc marks p
   finds-lowest marks p m line near under low r l a e z u v f =
       f ∙ ap (λ (x : ℕ). smallest (has x) m none) (v ∙ ap (λ (x : ℕ). minus x marks) u)

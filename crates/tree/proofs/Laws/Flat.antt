@@ -62,7 +62,7 @@ flat-halves =
 
 pub halves-flat : (i p : ℕ) → 0 < p → Above flat p (p / 2 ^ suc i)
 halves-flat zero p h = half-above p h
-halves-flat (suc i) p h = ⊎-elim at-zero (above (halves-flat i (p / 2))) (eq-or-ne (p / 2) 0)
+halves-flat (suc i) p h = ⊎-elim at-zero (further (halves-flat i (p / 2))) (eq-or-ne (p / 2) 0)
   where
     same : p / 2 ^ suc (suc i) ≡ p / 2 / 2 ^ suc i
     same = sym (shr-shr p 1 (suc i) ∙ ap (λ (x : ℕ). p / 2 ^ x) (one-add (suc i)))
@@ -70,5 +70,5 @@ halves-flat (suc i) p h = ⊎-elim at-zero (above (halves-flat i (p / 2))) (eq-o
     at-zero : p / 2 ≡ 0 → Above flat p (p / 2 ^ suc (suc i))
     at-zero e = subst (λ (a : ℕ). Above flat p a) (sym (same ∙ ap (λ (x : ℕ). x / 2 ^ suc i) e ∙ zero-div (2 ^ suc i)) ∙ refl) (subst (λ (a : ℕ). Above flat p a) e (half-above p h))
 
-    above : (0 < p / 2 → Above flat (p / 2) (p / 2 / 2 ^ suc i)) → (p / 2 ≡ 0 → ⊥) → Above flat p (p / 2 ^ suc (suc i))
-    above ih d = subst (λ (a : ℕ). Above flat p a) (sym same) (above-half p (p / 2 / 2 ^ suc i) h (ih (omega arith)))
+    further : (0 < p / 2 → Above flat (p / 2) (p / 2 / 2 ^ suc i)) → (p / 2 ≡ 0 → ⊥) → Above flat p (p / 2 ^ suc (suc i))
+    further ih d = subst (λ (a : ℕ). Above flat p a) (sym same) (above-half p (p / 2 / 2 ^ suc i) h (ih (omega arith)))

@@ -17,7 +17,7 @@ largest-requires : tie.Need-largest-requires
 largest-requires c κs = search needs
 
 returns : tie.Need-returns
-returns c = search (finds-nearest flat flat-ancestry)
+returns c = search (finds-nearest flat (flat-ancestry .smaller))
 
 below-requires : tie.Need-below-requires
 below-requires c κs = search needs
@@ -29,7 +29,7 @@ smallest-requires : tie.Need-smallest-requires
 smallest-requires c κs = search needs
 
 returns-2 : tie.Need-returns-2
-returns-2 c = search (finds-lowest flat flat-ancestry)
+returns-2 c = search (finds-lowest flat)
 
 pub parent-of-spec : {M : Type 1} → statement M
 parent-of-spec =
