@@ -1,9 +1,9 @@
 -- What the program prints is a matter of the file alone, and of no more than its first 36,871 bytes: the slice that is lent may hold anything.
 -- Assumes nothing.
-use mathlib.Core.Path.{_≡_, refl, sym, ap, _∙_}
+use mathlib.Core.Path.{_≡_, sym, ap, _∙_}
 use mathlib.Core.List.{List}
 use mathlib.Core.Logic.{⊎-elim}
-use Prim.Native.Nat.{ℕ, zero, suc, _+_, _*_, _<_, _≤_}
+use Prim.Native.Nat.{ℕ, _+_, _*_, _<_, _≤_}
 use native.Mathlib.Omega.{arith}
 use lib.ListN.{length, take}
 use lib.Seq.{take-all}
@@ -15,16 +15,11 @@ use Rattle.files.specs.Files.{longest, eventsIn}
 use Rattle.schedule.specs.Runs.{run}
 use Rattle.schedule.proofs.Laws.Opening.{long-refused, long-alike}
 use Rattle.schedule.proofs.Laws.Slices.{Agree, same-run}
+use Rattle.text.specs.Text.{lines}
+use Rattle.text.proofs.Laws.Lines.{lines-same}
 use Rattle.lines.specs.Lines.{eventLine, refusedLine}
 use Rattle.lines.proofs.Laws.Lines.{event-same}
-use Rattle.listing.specs.Listings.{fileRoom, answersRoom, lines, listing, reportOf, report}
-
-lines-same : (f g : ℕ → List ℕ) (k : ℕ) → ((i : ℕ) → i < k → f i ≡ g i) → lines f k ≡ lines g k
-unfolding lines
-lines-same f g zero h = refl
-lines-same f g (suc k) h =
-    let e : lines f k ≡ lines g k = lines-same f g k (λ i l. h i (omega arith)) in
-    rw (e, h k (omega arith))
+use Rattle.listing.specs.Listings.{fileRoom, answersRoom, listing, reportOf, report}
 
 line-same : (a b : List ℕ) (k : ℕ) → Agree a b (3 * k + 3) → eventLine a k ≡ eventLine b k
 line-same a b k h = event-same a b k (h (3 * k) (omega arith)) (h (3 * k + 1) (omega arith)) (h (3 * k + 2) (omega arith))

@@ -15,13 +15,13 @@ use Rattle.state.specs.Starting.{firstRank, firstRow, freshState, emptyState, s
 use Rattle.order.specs.Order.{proper, clauses, rankInOrder, isWithin, memberInOrder, zeroRecord, strangerInOrder, seatInOrder, seatInOrderAt, messageInOrder, zeroPlace, placeInOrder, placeInOrderAt, inOrder}
 use Rattle.plans.specs.Plans.{subject, refusing, accepting, afterwards, fitting, delivered, acting, planned}
 use Rattle.group.specs.Events.{posted, applied, refused, carried, subjectOf, planOf, stepped, event}
-use Rattle.text.specs.Text.{digitsOf, decimal, field}
+use Rattle.text.specs.Text.{digitsOf, decimal, field, lines}
 use Rattle.files.specs.Files.{byteAt, shortAt, numberAt, eventAt, eventsIn, wrongMark, wrongVersion, broken, header, numberOf}
 use Rattle.files.specs.Cases.{file}
 use Rattle.schedule.specs.Runs.{written, stepAt, played, refusedRun, acceptedRun, opened, run}
 use Rattle.schedule.specs.Samples.{then, three}
 use Rattle.lines.specs.Lines.{firstLine, eventLine, living, resultField, rankLine, lastLine, refusedLine}
-use Rattle.listing.specs.Listings.{lines, rankLines, listing, reportOf, report}
+use Rattle.listing.specs.Listings.{rankLines, listing, reportOf, report}
 use Rattle.listing.specs.Witnesses.{threeListing, later, seen, goes, one, two, reporting, widowed, extinct, crowded, four, five, movesThese, refuses, leaves, witnesses}
 
 pub nothing-is-vacuous : all witnesses ≡ true

@@ -1,19 +1,15 @@
 -- The listing of a run: its lines in order; or the one line of a refused run.
-use Prim.Native.Nat.{ℕ, zero, suc, _+_, _*_}
+use Prim.Native.Nat.{ℕ, _+_, _*_}
 use mathlib.Core.Bool.{cond}
-use mathlib.Core.List.{List, [], _++_}
+use mathlib.Core.List.{List, _++_}
 use lib.Dec.{eqb}
 use lib.ListN.{getD}
 use Rattle.state.specs.declared.State.{State}
 use Rattle.state.specs.States.{zeroRank}
+use Rattle.text.specs.Text.{lines}
 use Rattle.files.specs.Files.{mostEvents, longest, eventsIn}
 use Rattle.schedule.specs.Runs.{Run, run}
 use Rattle.lines.specs.Lines.{firstLine, eventLine, rankLine, lastLine, refusedLine}
-
--- The lines of the places below k, ascending.
-unfoldable pub lines : (ℕ → List ℕ) → ℕ → List ℕ
-lines f zero = []
-lines f (suc k) = lines f k ++ f k
 
 -- The rank lines of a state, ascending.
 unfoldable pub rankLines : State → List ℕ

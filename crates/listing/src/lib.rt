@@ -11,10 +11,10 @@ ghost use mathlib.Core.Path.{_≡_};
 ghost use lib.ListN.{getD, length, take};
 ghost use Rattle.tree.specs.Tree.{flat};
 ghost use Rattle.state.specs.States.{zeroRank};
-ghost use Rattle.text.specs.Text.{Wrote};
+ghost use Rattle.text.specs.Text.{Wrote, lines};
 ghost use Rattle.schedule.specs.Runs.{run};
 ghost use Rattle.lines.specs.Lines.{eventLine, rankLine};
-ghost use Rattle.listing.specs.Listings.{answersRoom, fileRoom, lines, listing, report, textRoom};
+ghost use Rattle.listing.specs.Listings.{answersRoom, fileRoom, listing, report, textRoom};
 
 // The event lines, ascending.
 fn put_events(text: &mut [u8], at: usize, answers: &[u32], events: usize) -> usize

@@ -32,3 +32,8 @@ field x = 32 ∷ decimal x
 -- The line feed.
 abbrev pub feed : List ℕ
 feed = 10 ∷ []
+
+-- The lines of the places below k, ascending.
+unfoldable pub lines : (ℕ → List ℕ) → ℕ → List ℕ
+lines f zero = []
+lines f (suc k) = lines f k ++ f k

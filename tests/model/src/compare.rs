@@ -1,9 +1,10 @@
-//! The programs beside the model: listings of fresh random schedules, a difference made as small as can be; marks and climbs on fresh random
-//! views; and who moved, by marks and by events.
+//! The programs beside the model: what is printed of fresh random schedules, a difference made as small as can be; marks and climbs on fresh
+//! random views; who moved, by marks and by events; and pictures of fresh random views and damaged texts.
 
 use crate::cases::{answers, lines, Case};
+use crate::drawings;
 use crate::fail;
-use crate::file::{listing, read};
+use crate::file::read;
 use crate::random::{schedule, Random};
 use crate::random_views::cases;
 use crate::script::script;
@@ -29,19 +30,22 @@ fn answer(program: &str, input: &[u8]) -> String {
     String::from_utf8_lossy(&output.stdout).into_owned()
 }
 
-fn differs(program: &str, file: &[u8]) -> bool {
-    answer(program, file) != listing(file)
+/// What must be printed of a schedule.
+pub type Printed = fn(&[u8]) -> String;
+
+fn differs(program: &str, printed: Printed, file: &[u8]) -> bool {
+    answer(program, file) != printed(file)
 }
 
 /// Leaves out pieces of the file, large ones first, as long as the difference stays.
-fn smallest(program: &str, file: Vec<u8>) -> Vec<u8> {
+fn smallest(program: &str, printed: Printed, file: Vec<u8>) -> Vec<u8> {
     let mut file = file;
     let mut piece = 9 * 2048;
     while piece > 0 {
         let mut at = 6;
         while at + piece <= file.len() {
             let shorter = [&file[..at], &file[at + piece..]].concat();
-            if differs(program, &shorter) {
+            if differs(program, printed, &shorter) {
                 file = shorter;
             } else {
                 at += piece;
@@ -53,14 +57,14 @@ fn smallest(program: &str, file: Vec<u8>) -> Vec<u8> {
 }
 
 /// Compares `count` schedules from the seed on; true when there was no difference.
-pub fn compare(program: &str, seed: u64, count: u64) -> bool {
+pub fn compare(program: &str, printed: Printed, seed: u64, count: u64) -> bool {
     for k in seed..seed + count {
         let file = schedule(&mut Random::new(k));
-        if differs(program, &file) {
-            let file = smallest(program, file);
+        if differs(program, printed, &file) {
+            let file = smallest(program, printed, file);
             let bytes: Vec<String> = file.iter().map(|b| format!("{b:02x}")).collect();
             println!("seed {k}: the smallest file found, {} bytes:\n{}", file.len(), bytes.join(" "));
-            println!("the model:\n{}the program:\n{}", listing(&file), answer(program, &file));
+            println!("the model:\n{}the program:\n{}", printed(&file), answer(program, &file));
             println!("{} schedules alike, then a difference", k - seed);
             return false;
         }
@@ -122,5 +126,27 @@ pub fn compare_events(program: &str, seed: u64, count: u64) -> bool {
         twice += script.answers.iter().filter(|a| a.moved.count as usize > a.moved.ranks.len()).count();
     }
     println!("{events} events of {schedules} schedules, {twice} with a count above the set's size, no difference");
+    true
+}
+
+/// Compares `count` views written and as many texts read, from the seed on, many in one run of the program; true when there was no
+/// difference.
+pub fn compare_pictures(program: &str, seed: u64, count: u64) -> bool {
+    let batch = 100;
+    let (mut written, mut read) = (0, 0);
+    for from in (0..count).step_by(batch) {
+        let cases = drawings::cases(seed + from, (count - from).min(batch as u64));
+        let ours: Vec<String> = cases.iter().map(drawings::Case::answer).collect();
+        let theirs = answer(program, &drawings::bytes(&cases));
+        if ours.concat() != theirs {
+            let at = (1..ours.len()).find(|k| !theirs.starts_with(&ours[..*k].concat())).unwrap_or(ours.len()) - 1;
+            println!("seed {}: {:?}\nthe model:\n{}", seed + from + at as u64 / 2, cases[at], ours[at]);
+            println!("the program:\n{}", theirs.get(ours[..at].concat().len()..).unwrap_or("nothing"));
+            return false;
+        }
+        written += ours.iter().filter(|line| line.starts_with("write 0 ")).count();
+        read += ours.iter().filter(|line| line.starts_with("read 0 ")).count();
+    }
+    println!("{count} views, {written} of them written, and {count} texts, {read} of them read, no difference");
     true
 }

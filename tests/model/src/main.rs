@@ -1,4 +1,4 @@
-//! A second opinion on schedules, marks and climbs, written from document 01 and requests 2026-01 and 2026-04 alone.
+//! A second opinion on schedules, marks, climbs and pictures, written from document 01 and requests 2026-01, 2026-03 and 2026-04 alone.
 //!
 //!     model listing < FILE                     the listing that FILE must have
 //!     model write [EVENTS] > FILE              the schedule that a text describes (events.rs)
@@ -10,15 +10,21 @@
 //!     model answers < CASES                    the lines that must answer them
 //!     model compare-views PROGRAM SEED COUNT   the program's answers beside the model's, and who moved by each mark
 //!     model compare-events PROGRAM SEED COUNT  who moved by each event of random schedules, the program beside the model
+//!     model drawing < FILE                     the pictures that must be printed of FILE
+//!     model compare-drawings PROGRAM SEED COUNT  the same beside the program's, of random schedules
+//!     model pictures SEED COUNT DIR            COUNT random views to write and texts to read as DIR/stdin, what must answer them as DIR/stdout
+//!     model compare-pictures PROGRAM SEED COUNT  the program's answers to such beside the model's
 //!
 //! It ends with 1 where a text is refused or a comparison finds a difference, 2 for a wrong use, 3 where reading or
 //! writing failed.
 
 mod cases;
 mod compare;
+mod drawings;
 mod events;
 mod file;
 mod group;
+mod pictures;
 mod random;
 mod random_views;
 mod rank;
@@ -84,12 +90,21 @@ fn data(seed: u64, count: u64, dir: &str) {
     let kept = files.filter(|(seed, bytes)| bytes.len() < 1500 || seed % 6 == 0).map(|(_, bytes)| bytes);
     let limits = limits(&mut Random::new(seed));
     for (k, bytes) in kept.take(count as usize).chain(limits).enumerate() {
-        let name = format!("{dir}/{k:03}.agr");
-        if let Err(why) = std::fs::write(&name, &bytes) {
-            fail(3, &format!("{name}: {why}"));
-        }
+        save(&format!("{dir}/{k:03}.agr"), &bytes);
         print(file::listing(&bytes).as_bytes());
     }
+}
+
+fn save(name: &str, bytes: &[u8]) {
+    if let Err(why) = std::fs::write(name, bytes) {
+        fail(3, &format!("{name}: {why}"));
+    }
+}
+
+fn pictures(seed: u64, count: u64, dir: &str) {
+    let cases = drawings::cases(seed, count);
+    save(&format!("{dir}/stdin"), &drawings::bytes(&cases));
+    save(&format!("{dir}/stdout"), drawings::answers(&cases).as_bytes());
 }
 
 /// A comparison that finds a difference ends the program with 1.
@@ -109,15 +124,22 @@ fn main() {
         ["write", name] => print(&said(name, read(&given[1]), events::written)),
         ["schedule", seed] => print(&schedule(&mut Random::new(number(seed)))),
         ["data", seed, count, dir] => data(number(seed), number(count), dir),
-        ["compare", program, seed, count] => ends(compare::compare(program, number(seed), number(count))),
+        ["compare", program, seed, count] => ends(compare::compare(program, file::listing, number(seed), number(count))),
         ["views", seed, count] => print(cases::lines(&random_views::cases(number(seed), number(count))).as_bytes()),
         ["answers"] => print(cases::answers(&said(INPUT, input(), cases::read)).as_bytes()),
         ["compare-views", program, seed, count] => ends(compare::compare_views(program, number(seed), number(count))),
         ["compare-events", program, seed, count] => ends(compare::compare_events(program, number(seed), number(count))),
+        ["drawing"] => print(pictures::views(&input()).as_bytes()),
+        ["compare-drawings", program, seed, count] => {
+            ends(compare::compare(program, pictures::views, number(seed), number(count)))
+        }
+        ["pictures", seed, count, dir] => pictures(number(seed), number(count), dir),
+        ["compare-pictures", program, seed, count] => ends(compare::compare_pictures(program, number(seed), number(count))),
         _ => fail(
             2,
             "listing | write [EVENTS] | schedule SEED | data SEED COUNT DIR | compare PROGRAM SEED COUNT | \
-             views SEED COUNT | answers | compare-views PROGRAM SEED COUNT | compare-events PROGRAM SEED COUNT",
+             views SEED COUNT | answers | compare-views PROGRAM SEED COUNT | compare-events PROGRAM SEED COUNT | \
+             drawing | compare-drawings PROGRAM SEED COUNT | pictures SEED COUNT DIR | compare-pictures PROGRAM SEED COUNT",
         ),
     }
 }

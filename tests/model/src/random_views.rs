@@ -14,7 +14,7 @@ fn wraps_to(random: &mut Random, k: u32) -> u32 {
     random.pick(&[256, 512, 1 << 16, 1 << 24, 1 << 31]).expect("one") + k
 }
 
-fn size(random: &mut Random) -> u32 {
+pub fn size(random: &mut Random) -> u32 {
     match random.below(40) {
         0 => 0,
         1 => 65,
@@ -31,7 +31,7 @@ fn path(p: u32) -> u64 {
 }
 
 /// Marks below n: none, few, many, all from the root on, a rank's ancestors, all, all but one.
-fn view(random: &mut Random, n: u32) -> u64 {
+pub fn view(random: &mut Random, n: u32) -> u64 {
     let n = n.clamp(1, 64);
     let word = match random.below(24) {
         0..=1 => 0,
@@ -48,7 +48,7 @@ fn view(random: &mut Random, n: u32) -> u64 {
 }
 
 /// The view, and now and then marks outside the group.
-fn with_outside(random: &mut Random, n: u32, view: u64, odds: u32) -> u64 {
+pub fn with_outside(random: &mut Random, n: u32, view: u64, odds: u32) -> u64 {
     if n >= 64 || !random.one_in(odds) {
         return view;
     }

@@ -2,7 +2,8 @@
 use Prim.Native.Nat.{_-_}
 use borrow.Author.Needs.{needs}
 use Rattle.text.proofs.Laws.Writing.{wrote-kept}
-use Rattle.listing.proofs.Laws.Lines.{Lining, events-start, lining-room, lining-step, lining-end}
+use Rattle.text.proofs.Laws.Lines.{Lining, lining-room, lining-step, lining-end}
+use Rattle.listing.proofs.Laws.Lines.{events-start}
 use Rattle.lines.specs.Lines.{eventLine}
 use Rattle.listing.proofs.put_events.Statement.{statement}
 use Rattle.listing.proofs.put_events.Tie as tie

@@ -6,7 +6,7 @@ use borrow.Author.Needs.{needs}
 use Rattle.state.specs.States.{zeroRank}
 use Rattle.text.proofs.Laws.Writing.{wrote-kept}
 use Rattle.lines.proofs.Laws.Lines.{length-rank}
-use Rattle.listing.proofs.Laws.Lines.{Lining, lining-start, lining-room, lining-step, lining-end}
+use Rattle.text.proofs.Laws.Lines.{Lining, lining-start, lining-room, lining-step, lining-end}
 use Rattle.lines.specs.Lines.{rankLine}
 use Rattle.listing.proofs.put_ranks.Statement.{statement}
 use Rattle.listing.proofs.put_ranks.Tie as tie

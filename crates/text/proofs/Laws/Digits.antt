@@ -11,7 +11,7 @@ use mir.Val.{Fits}
 use lib.Dec.{ltb}
 use lib.ListN.{length, getD, take, length-append}
 use lib.Seq.{take-suc, take-all, length-take-le}
-use borrow.Author.Tests.{lt-ltb, le-ltb, ltb-false}
+use borrow.Author.Tests.{lt-ltb, le-ltb, ltb-true, ltb-false}
 use Rattle.sets.proofs.Laws.Bools.{passes-or-fails}
 use Rattle.text.specs.Text.{Wrote, digitsOf, decimal, field}
 use Rattle.text.proofs.Laws.Writing.{wrote-nothing, wrote-then, wrote-kept}
@@ -49,13 +49,23 @@ unfolding decimal
 length-decimal x = length-digits 10 x
 
 -- a number below ten is one digit; any other is a tenth's digits and one more
-decimal-one : (x : ℕ) → x < 10 → decimal x ≡ (48 + x) ∷ []
+pub decimal-one : (x : ℕ) → x < 10 → decimal x ≡ (48 + x) ∷ []
 unfolding decimal digitsOf
 decimal-one x l = rw (lt-ltb x 10 l)
 
-decimal-more : (x : ℕ) → x < 2 ^ 32 → 10 ≤ x → decimal x ≡ decimal (x / 10) ++ ((48 + x % 10) ∷ [])
+pub decimal-more : (x : ℕ) → x < 2 ^ 32 → 10 ≤ x → decimal x ≡ decimal (x / 10) ++ ((48 + x % 10) ∷ [])
 unfolding decimal
 decimal-more x w l = digits-last 9 x l ∙ ap (λ (d : List ℕ). d ++ ((48 + x % 10) ∷ [])) (sym (digits-more 8 (x / 10) (omega arith)))
+
+pub decimal-two : (p : ℕ) → 10 ≤ p → p < 100 → decimal p ≡ (48 + p / 10) ∷ (48 + p % 10) ∷ []
+decimal-two p l m = decimal-more p (omega arith) l ∙ rw (decimal-one (p / 10) (omega arith))
+
+pub decimal-short : (p : ℕ) → p < 100 → length (decimal p) ≡ cond (ltb p 10) 1 2
+decimal-short p m = go (passes-or-fails (ltb p 10))
+  where
+    go : (ltb p 10 ≡ true) ⊎ (ltb p 10 ≡ false) → length (decimal p) ≡ cond (ltb p 10) 1 2
+    go (inl t) = rw (t, decimal-one p (ltb-true p 10 t))
+    go (inr t) = rw (t, decimal-two p (ltb-false p 10 t) m)
 
 -- the code's two ways: one digit, or a tenth's digits and one more
 pub number-one : (text : List ℕ) (at x : ℕ) (t : List ℕ) (a : ℕ) → x < 10 → Wrote text at ((48 + x) ∷ []) t a → Wrote text at (decimal x) t a

@@ -1,9 +1,11 @@
 -- Writing into a lent buffer: one piece of text after the other is their concatenation, and the buffer keeps its length. Assumes nothing.
 use mathlib.Core.Path.{_≡_, refl, sym, ap, _∙_}
-use mathlib.Core.List.{List, [], _∷_, _++_}
+use mathlib.Core.List.{List, [], _∷_, _++_, append-nil, append-assoc}
 use Prim.Native.Nat.{ℕ, _+_, _≤_}
+use native.Mathlib.Numerals.{add-one}
 use native.Mathlib.Omega.{arith}
-use lib.ListN.{length, set, length-set, length-append}
+use lib.ListN.{length, take, set, length-set, length-append}
+use lib.Seq.{take-suc-set}
 use Rattle.sets.proofs.Laws.Alike.{alike}
 use Rattle.text.specs.Text.{pasted, Wrote}
 
@@ -44,3 +46,16 @@ wrote-room k m p short room = omega (arith, p .next-is, wrote-kept p)
 -- two that wrote the same wrote alike
 pub wrote-alike : {text : List ℕ} {at : ℕ} {l t u : List ℕ} {a b : ℕ} → Wrote text at l t a → Wrote text at l u b → (a ≡ b) × (t ≡ u)
 wrote-alike p q = (alike (p .next-is) (q .next-is), alike (p .text-is) (q .text-is))
+
+-- what was written can be taken out again
+pasted-taken : (text : List ℕ) (at : ℕ) (l : List ℕ) → at + length l ≤ length text → take (at + length l) (pasted text at l) ≡ take at text ++ l
+unfolding pasted
+pasted-taken text at [] r = let e : at + 0 ≡ at = omega arith in ap (λ (k : ℕ). take k text) e ∙ sym (append-nil (take at text))
+pasted-taken text at (b ∷ l) r =
+    let e : at + length (b ∷ l) ≡ at + 1 + length l = omega arith in
+    ap (λ (k : ℕ). take k (pasted (set text at b) (at + 1) l)) e
+    ∙ (pasted-taken (set text at b) (at + 1) l (omega (arith, length-set text at b))
+    ∙ rw (add-one at, take-suc-set text at b (omega arith), append-assoc))
+
+pub wrote-taken : {text l t : List ℕ} {a : ℕ} → Wrote text 0 l t a → length l ≤ length text → take a t ≡ l
+wrote-taken {text} {l} {t} {a} w r = rw (w .text-is, w .next-is) (pasted-taken text 0 l (omega arith))

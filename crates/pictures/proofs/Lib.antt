@@ -1,0 +1,5 @@
+pub mod Laws
+pub mod Determined
+pub mod RoundTrip
+pub mod Cases
+pub mod Length

@@ -1,0 +1,4 @@
+pub mod Pictures
+pub mod Writing
+pub mod Reading
+pub mod Cases
