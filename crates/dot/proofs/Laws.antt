@@ -1,2 +1,2 @@
--- All that the crates above cite of a line.
+-- All that the crates up cite of a line.
 pub mod Lines

@@ -22,7 +22,7 @@ nodeLine marks p = cond (has marks p) [] (decimal p ++ (shape marks p ++ (59 ∷
 
 -- An edge from a rank to its parent: `2 -> 1;`.
 unfoldable pub edge : ℕ → ℕ → List ℕ
-edge p above = decimal p ++ ((32 ∷ 45 ∷ 62 ∷ 32 ∷ []) ++ (decimal above ++ (59 ∷ feed)))
+edge p up = decimal p ++ ((32 ∷ 45 ∷ 62 ∷ 32 ∷ []) ++ (decimal up ++ (59 ∷ feed)))
 
 -- One edge line for each unmarked rank with a parent.
 unfoldable pub edgeLine : ℕ → ℕ → List ℕ

@@ -18,7 +18,7 @@ pub fn put_opening(text: &mut [u8], at: usize, n: u8) -> usize
 }
 
 // The line of an unmarked rank, the root's with a box; nothing for a marked one.
-fn put_node(text: &mut [u8], at: usize, marks: u64, p: u8) -> usize
+fn put_node_line(text: &mut [u8], at: usize, marks: u64, p: u8) -> usize
     requires { ⌜ at + 24 ≤ length (now text) ⌝ }
     requires { ⌜ p < 64 ⌝ }
     ensures { λ r. ⌜ Wrote (now (text .entry)) at (nodeLine marks p) (now (text .exit)) r ⌝ }
@@ -34,27 +34,27 @@ fn put_node(text: &mut [u8], at: usize, marks: u64, p: u8) -> usize
 }
 
 // An edge from a rank to its parent.
-fn put_edge(text: &mut [u8], at: usize, p: u8, above: u8) -> usize
+fn put_edge(text: &mut [u8], at: usize, p: u8, up: u8) -> usize
     requires { ⌜ at + 26 ≤ length (now text) ⌝ }
-    ensures { λ r. ⌜ Wrote (now (text .entry)) at (edge p above) (now (text .exit)) r ⌝ }
+    ensures { λ r. ⌜ Wrote (now (text .entry)) at (edge p up) (now (text .exit)) r ⌝ }
 {
     let arrow = put_number(text, at, p as u32);
     let parent = put_letters(text, arrow, b" -> ");
-    let end = put_number(text, parent, above as u32);
+    let end = put_number(text, parent, up as u32);
     put_letters(text, end, b";\n")
 }
 
 // The edge line of an unmarked rank with a parent; nothing for any other.
-fn put_link(text: &mut [u8], at: usize, marks: u64, p: u8) -> usize
+fn put_edge_line(text: &mut [u8], at: usize, marks: u64, p: u8) -> usize
     requires { ⌜ at + 26 ≤ length (now text) ⌝ }
     requires { ⌜ p < 64 ⌝ }
     ensures { λ r. ⌜ Wrote (now (text .entry)) at (edgeLine marks p) (now (text .exit)) r ⌝ }
 {
-    let above = tree::parent_of(marks, p);
-    if sets::member(marks, p) | (above == sets::NONE) {
+    let up = tree::parent_of(marks, p);
+    if sets::member(marks, p) | (up == sets::NONE) {
         return at;
     }
-    put_edge(text, at, p, above)
+    put_edge(text, at, p, up)
 }
 
 // A rank's edge line, or its node line.
@@ -64,7 +64,7 @@ pub fn put_line(text: &mut [u8], at: usize, marks: u64, p: u8, edges: bool) -> u
     ensures { λ r. ⌜ Wrote (now (text .entry)) at (cond edges (edgeLine marks p) (nodeLine marks p)) (now (text .exit)) r ⌝ }
 {
     if edges {
-        return put_link(text, at, marks, p);
+        return put_edge_line(text, at, marks, p);
     }
-    put_node(text, at, marks, p)
+    put_node_line(text, at, marks, p)
 }

@@ -5,12 +5,7 @@ use Prim.Native.Nat.{ℕ}
 use contract.Lifetimes.{Lfts}
 use Rattle.sets.proofs.Laws.Alike.{alike}
 use Rattle.text.proofs.Laws.Writing.{wrote-alike}
-use Rattle.drawing.proofs.draw.Reads as draw
 use Rattle.drawing.proofs.report.Reads as report
-
--- The length, and the buffer.
-pub draw-determined : (κs : Lfts 1) (a : _) (t u : ℕ) (x y : _) → draw.Post κs a t x → draw.Post κs a u y → (t ≡ u) × (x .0 .now ≡ y .0 .now)
-draw-determined κs a t u x y e f = wrote-alike e f
 
 -- The length, the buffer, and the slice of answers.
 pub report-determined : (κs : Lfts 3) (a : _) (t u : ℕ) (x y : _) → report.Post κs a t x → report.Post κs a u y

@@ -32,7 +32,7 @@ fn play(text: &[u8]) {
     }
 }
 
-// A text of cases has at most 262,144 bytes.
+// A text of cases has at most 262,144 bytes; what is more is not read.
 fn main() {
     let mut text = [0u8; 262144];
     let got = io::read_full(STDIN_FILENO, &mut text);

@@ -6,7 +6,7 @@ use Prim.Native.Nat.{ℕ}
 use contract.Lifetimes.{Lfts}
 use Rattle.sets.proofs.Laws.Alike.{alike}
 use Rattle.text.proofs.Laws.Writing.{wrote-alike}
-use Rattle.pictures.specs.Writing.{Writing, reply}
+use Rattle.pictures.specs.Writing.{Outcome, reply}
 use Rattle.pictures.specs.declared.Written.{Written}
 use Rattle.pictures.specs.declared.Viewed.{Viewed}
 use Rattle.pictures.proofs.Laws.Calls.{reads-alike}
@@ -19,7 +19,7 @@ put-picture-determined κs a t u x y e f = wrote-alike e f
 
 -- The answer, the length and the buffer.
 same : (t u : Written) (x y : List ℕ) → reply t x ≡ reply u y → (t ≡ u) × (x ≡ y)
-same t u x y e = (ap {B = Written} (λ (w : Writing). record { answer = w .answer; length = w .length }) e, ap (λ (w : Writing). w .text) e)
+same t u x y e = (ap {B = Written} (λ (w : Outcome). record { answer = w .answer; length = w .length }) e, ap (λ (w : Outcome). w .text) e)
 
 pub write-determined : (κs : Lfts 1) (a : _) (t u : Written) (x y : _) → write.Post κs a t x → write.Post κs a u y → (t ≡ u) × (x .1 .1 .0 .now ≡ y .1 .1 .0 .now)
 write-determined κs a t u x y e f = same t u (x .1 .1 .0 .now) (y .1 .1 .0 .now) (alike e f)

@@ -26,7 +26,7 @@ use Rattle.dot.proofs.Laws.Lines.{opening-is, NodeLine, unlisted, plain, boxed,
 use Rattle.pictures.specs.Pictures.{picture}
 use Rattle.pictures.specs.Writing.{writing}
 use Rattle.pictures.specs.Reading.{IsView}
-use Rattle.pictures.proofs.Laws.Calls.{view-written}
+use Rattle.pictures.proofs.RoundTrip.{a-view-is-written}
 
 -- How many digits a rank has.
 unfoldable digits : ℕ → ℕ
@@ -87,6 +87,14 @@ one : (t : Bool) → 1 ≤ cond t 1 2
 one true = omega arith
 one false = omega arith
 
+digits-two : (p : ℕ) → digits p ≤ 2
+unfolding digits
+digits-two p = go (ltb p 10)
+  where
+    go : (t : Bool) → cond t 1 2 ≤ 2
+    go true = omega arith
+    go false = omega arith
+
 digits-one : (a b : ℕ) → a < 10 → digits a ≤ digits b
 unfolding digits
 digits-one a b l = rw (lt-ltb a 10 l) (one (ltb b 10))
@@ -107,19 +115,16 @@ parent-digits marks r p q b f s (nobody k) d = absurd (d refl)
 
 -- ---- all lines together
 
-opening-length : (n : ℕ) → n ≤ 64 → length (openingLine n) ≤ 14
-opening-length n b = rw (opening-is n) (omega (arith, length-append (decimal n) (32 ∷ 123 ∷ 10 ∷ []), decimal-short n (omega arith), two (ltb n 10)))
-  where
-    two : (t : Bool) → cond t 1 2 ≤ 2
-    two true = omega arith
-    two false = omega arith
+opening-short : (n : ℕ) → n ≤ 64 → length (openingLine n) ≤ 14
+unfolding digits
+opening-short n b = rw (opening-is n) (omega (arith, length-append (decimal n) (32 ∷ 123 ∷ 10 ∷ []), decimal-short n (omega arith), digits-two n))
 
 parts : (n marks nodes edges : ℕ) → n ≤ 64 → length (lines (nodeLine marks) n) ≤ nodes → length (lines (edgeLine marks) n) ≤ edges → length (picture n marks) ≤ 16 + nodes + edges
 unfolding picture
 parts n marks nodes edges b x y =
     omega (
       arith,
-      opening-length n b,
+      opening-short n b,
       length-append (openingLine n) (lines (nodeLine marks) n ++ (lines (edgeLine marks) n ++ (125 ∷ 10 ∷ []))),
       length-append (lines (nodeLine marks) n) (lines (edgeLine marks) n ++ (125 ∷ 10 ∷ [])),
       length-append (lines (edgeLine marks) n) (125 ∷ 10 ∷ []),
@@ -156,15 +161,11 @@ without-ten n marks b h =
     past : (p : ℕ) → has marks p ≡ false → 10 ≤ p
     past p e = ⊎-elim (λ s. absurd (clash (has marks p) (h p s) e)) (λ s. s) (lt-or-le p 10)
 
-    two : (t : Bool) → cond t 1 2 ≤ 2
-    two true = omega arith
-    two false = omega arith
-
     node : (p : ℕ) → p < 64 → has marks p ≡ false → 2 + digits p ≤ late 4 p
-    node p m e = rw (le-ltb p 10 (past p e)) (omega arith)
+    node p m e = rw (le-ltb p 10 (past p e)) (omega (arith, digits-two p))
 
     edge : (p : ℕ) → p < 64 → has marks p ≡ false → (parent flat marks p ≡ none → ⊥) → 6 + digits p + digits (parent flat marks p) ≤ late 10 p
-    edge p m e d = rw (le-ltb p 10 (past p e)) (omega (arith, two (ltb (parent flat marks p) 10)))
+    edge p m e d = rw (le-ltb p 10 (past p e)) (omega (arith, digits-two p, digits-two (parent flat marks p)))
 
 pub a-picture-has-at-most-876-bytes : (n marks : ℕ) → n ≤ 64 → length (picture n marks) ≤ 876
 a-picture-has-at-most-876-bytes n marks b = go (smallest (λ k. not (has marks k)) 10 none) (smallest-cases (λ k. not (has marks k)) 10 none)
@@ -176,4 +177,4 @@ a-picture-has-at-most-876-bytes n marks b = go (smallest (λ k. not (has marks k
 -- So a buffer of 876 bytes takes every view.
 pub room-for-every-view : (n marks : ℕ) (text : List ℕ) → IsView n marks → 876 ≤ length text → writing n marks text .answer ≡ 0
 room-for-every-view n marks text v l =
-    view-written n marks text v (omega (arith, a-picture-has-at-most-876-bytes n marks (size-le n false (sym (v .sized)) refl)))
+    a-view-is-written n marks text v (omega (arith, a-picture-has-at-most-876-bytes n marks (size-le n false (sym (v .sized)) refl)))

@@ -6,11 +6,11 @@ use Prim.Native.Nat.{ℕ, _≤_}
 use contract.Lifetimes.{Lfts}
 use lib.ListN.{length, take}
 use Rattle.pictures.specs.Pictures.{picture}
-use Rattle.pictures.specs.Writing.{Writing, writing}
+use Rattle.pictures.specs.Writing.{Outcome, writing}
 use Rattle.pictures.specs.Reading.{IsView, Reads, a-picture}
 use Rattle.pictures.specs.declared.Written.{Written}
 use Rattle.pictures.specs.declared.Viewed.{Viewed}
-use Rattle.pictures.proofs.Laws.Calls.{accepted-writing, view-written, same-view, reads-alike}
+use Rattle.pictures.proofs.Laws.Calls.{accepted-writing, written-view, writing-cases, same-view, reads-alike}
 use Rattle.pictures.proofs.write.Reads as write
 use Rattle.pictures.proofs.read.Reads as read
 
@@ -23,7 +23,7 @@ a-picture-is-read n marks r v h = reads-alike h (a-picture n marks v refl)
 
 -- A view is written in every buffer that has the room.
 pub a-view-is-written : (n marks : ℕ) (text : List ℕ) → IsView n marks → length (picture n marks) ≤ length text → writing n marks text .answer ≡ 0
-a-view-is-written n marks text v l = view-written n marks text v l
+a-view-is-written n marks text v l = written-view n marks text (writing n marks text) (writing-cases n marks text) v l
 
 read-back : (n marks : ℕ) (text : List ℕ) (r : Viewed) → writing n marks text .answer ≡ 0 → Reads (take (writing n marks text .length) (writing n marks text .text)) r → r ≡ record { answer = 0; n = n; marks = marks }
 read-back n marks text r z h = let w = accepted-writing n marks text z in a-picture-is-read n marks r (w .0) (subst (λ (l : List ℕ). Reads l r) (w .1) h)
@@ -33,5 +33,5 @@ pub reading-what-was-written : (κs : Lfts 1) (a : _) (t : Written) (x : _) → 
     → (λs : Lfts 1) (b : _) (u : Viewed) (y : _) → read.Post λs b u y → b .0 .now ≡ take (t .length) (x .1 .1 .0 .now) → u ≡ record { answer = 0; n = a .0; marks = a .1 .0 }
 reading-what-was-written κs a t x e z λs b u y h s =
     let text = a .1 .1 .0 .now in
-    let left : b .0 .now ≡ take (writing (a .0) (a .1 .0) text .length) (writing (a .0) (a .1 .0) text .text) = s ∙ ap (λ (w : Writing). take (w .length) (w .text)) e in
-    read-back (a .0) (a .1 .0) text u (sym (ap (λ (w : Writing). w .answer) e) ∙ z) (subst (λ (l : List ℕ). Reads l u) left h)
+    let left : b .0 .now ≡ take (writing (a .0) (a .1 .0) text .length) (writing (a .0) (a .1 .0) text .text) = s ∙ ap (λ (w : Outcome). take (w .length) (w .text)) e in
+    read-back (a .0) (a .1 .0) text u (sym (ap (λ (w : Outcome). w .answer) e) ∙ z) (subst (λ (l : List ℕ). Reads l u) left h)

@@ -6,7 +6,7 @@ use lib.Dec.{eqb}
 use lib.ListN.{length, replicate}
 use Rattle.tree.specs.Calls.{same}
 use Rattle.pictures.specs.Pictures.{picture}
-use Rattle.pictures.specs.Writing.{Writing, writing}
+use Rattle.pictures.specs.Writing.{Outcome, writing}
 
 -- Document 02's example: size 3 with rank 0 marked.
 unfoldable pub threeWithout0 : List ℕ
@@ -56,7 +56,7 @@ unfoldable pub allBut : ℕ
 allBut = 2 ^ 64 - 1 - 2 ^ 9 - 2 ^ 62 - 2 ^ 63
 
 -- A write answers this number and length and leaves this in the buffer.
-unfoldable pub writes : Writing → ℕ → ℕ → List ℕ → Bool
+unfoldable pub writes : Outcome → ℕ → ℕ → List ℕ → Bool
 writes w number length text = eqb (w .answer) number && eqb (w .length) length && same (w .text) text
 
 -- A buffer of so many bytes.
@@ -70,13 +70,14 @@ cases =
     ∷ same (picture 64 allBut) threeOf64
     -- all 64 ranks
     ∷ eqb (length (picture 64 0)) 876
-    -- refused with 1: sizes 0 and 65; 2 and 30 apply as well, and 1 is given
+    -- refused with 1: size 0, where 2 and 30 apply as well; size 65, where 30 does
     ∷ writes (writing 0 1 (buffer 1)) 1 0 (buffer 1)
     ∷ writes (writing 65 0 (buffer 1)) 1 0 (buffer 1)
-    -- with 2: marks outside the group; no rank left; 30 applies as well
+    -- with 2: marks outside the group; no rank left, of 3 and of 64; 30 applies as well
     ∷ writes (writing 3 8 (buffer 1)) 2 0 (buffer 1)
     ∷ writes (writing 3 7 (buffer 1)) 2 0 (buffer 1)
-    -- with 30: one byte too few; none too few; places past the text stay as found
+    ∷ writes (writing 64 (2 ^ 64 - 1) (buffer 1)) 2 0 (buffer 1)
+    -- with 30: one byte too few. Accepted: none to spare; two to spare, which stay as found
     ∷ writes (writing 3 1 (buffer 40)) 30 0 (buffer 40)
     ∷ writes (writing 3 1 (buffer 41)) 0 41 threeWithout0
     ∷ writes (writing 3 1 (buffer 43)) 0 41 (threeWithout0 ++ (7 ∷ 7 ∷ []))

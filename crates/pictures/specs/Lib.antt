@@ -1,4 +1,5 @@
 pub mod Pictures
+pub mod Refusals
 pub mod Writing
 pub mod Reading
 pub mod Cases

@@ -6,12 +6,9 @@ use mathlib.Core.List.{List}
 use Rattle.tree.specs.Refusals.{accepted}
 use Rattle.tree.specs.Calls.{wrongSize}
 use Rattle.pictures.specs.Pictures.{picture}
+use Rattle.pictures.specs.Refusals.{noPicture}
 use Rattle.pictures.specs.Writing.{wrongMarks}
 use Rattle.pictures.specs.declared.Viewed.{Viewed}
-
--- text that the writer produces for no view
-abbrev pub noPicture : ℕ
-noPicture = 31
 
 -- A size of 1 to 64 and a set of marks that leaves at least one rank: what the writer does not refuse with 1 or 2.
 pub record IsView (n marks : ℕ) : Type 0 where

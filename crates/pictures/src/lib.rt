@@ -9,10 +9,10 @@ ghost use lib.ListN.{length};
 ghost use Rattle.text.specs.Text.{Wrote, lines};
 ghost use Rattle.dot.specs.Dot.{edgeLine, nodeLine};
 ghost use Rattle.pictures.specs.Pictures.{picture, pictureRoom};
-ghost use Rattle.pictures.specs.Writing.{fitting, reply, writing, wrongMarks};
+ghost use Rattle.pictures.specs.Writing.{roomFor, reply, writing, wrongMarks};
 ghost use Rattle.pictures.specs.Reading.{Reads};
 
-// Room for the longest picture.
+// What put_picture asks for.
 const ROOM: usize = 3352;
 
 // The answer of write: a refusal number, or 0 with the length of the text.
@@ -43,7 +43,7 @@ fn put_lines(text: &mut [u8], at: usize, n: u8, marks: u64, edges: bool) -> usiz
     next
 }
 
-// A view's picture from a place on, in a buffer with room for the longest.
+// A view's picture from a place on, in a buffer with room for ten digits to a number.
 pub fn put_picture(text: &mut [u8], at: usize, n: u8, marks: u64) -> usize
     requires { ⌜ at + pictureRoom ≤ length (now text) ⌝ }
     requires { ⌜ n ≤ 64 ⌝ }
@@ -74,7 +74,7 @@ fn refuse(answer: u32) -> Written
 // Writes the picture of a view, where the buffer has room for it.
 fn fit(n: u8, marks: u64, text: &mut [u8]) -> Written
     requires { ⌜ n ≤ 64 ⌝ }
-    ensures { λ r. ⌜ reply r (now (text .exit)) ≡ fitting (picture n marks) (now (text .entry)) ⌝ }
+    ensures { λ r. ⌜ reply r (now (text .exit)) ≡ roomFor (picture n marks) (now (text .entry)) ⌝ }
 {
     let mut drawn = [0u8; ROOM];
     let length = put_picture(&mut drawn, 0, n, marks);
@@ -116,7 +116,10 @@ fn is_picture(text: &[u8], n: u8, marks: u64) -> bool
 {
     let mut drawn = [0u8; ROOM];
     let length = put_picture(&mut drawn, 0, n, marks);
-    check::same(text, &drawn[..length])
+    if text.len() != length {
+        return false;
+    }
+    check::same(&text[..length], &drawn[..length])
 }
 
 // Entry point: the view whose picture a text is, byte for byte. It proposes a view, and accepts where that view's picture is the text.

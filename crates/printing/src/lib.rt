@@ -1,4 +1,4 @@
-// What both schedule programs do: read a schedule from one descriptor, run it, and print its listing, or only its refusal, to another in one write.
+// What agr and agr_cases do: read a schedule from one descriptor, run it, and print its listing, or only its refusal, to another in one write.
 
 // One byte more than the longest file has, so that a longer one is seen.
 const FILE: usize = 36871;

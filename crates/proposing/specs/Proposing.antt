@@ -11,12 +11,12 @@ unfoldable pub isDigit : ℕ → Bool
 isDigit b = leb 48 b && leb b 57
 
 -- A number of one digit or two, from its bytes; none where the first is no digit.
-unfoldable pub numberOf : ℕ → ℕ → ℕ
-numberOf first second = cond (isDigit first) (cond (isDigit second) (10 * (first - 48) + (second - 48)) (first - 48)) none
+unfoldable pub numberFrom : ℕ → ℕ → ℕ
+numberFrom first second = cond (isDigit first) (cond (isDigit second) (10 * (first - 48) + (second - 48)) (first - 48)) none
 
 -- The number at a place.
 unfoldable pub numberIn : List ℕ → ℕ → ℕ
-numberIn text at = numberOf (getD text at 0) (getD text (at + 1) 0)
+numberIn text at = numberFrom (getD text at 0) (getD text (at + 1) 0)
 
 -- How many digits a rank or a size has.
 unfoldable pub width : ℕ → ℕ

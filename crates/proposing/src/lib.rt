@@ -3,7 +3,7 @@
 ghost use mathlib.Core.Path.{_≡_};
 ghost use Prim.Native.Nat.{_≤_};
 ghost use lib.ListN.{getD};
-ghost use Rattle.proposing.specs.Proposing.{afterNode, isDigit, marksIn, numberIn, numberOf, sizeIn, width};
+ghost use Rattle.proposing.specs.Proposing.{afterNode, isDigit, marksIn, numberIn, numberFrom, sizeIn, width};
 
 // The byte at a place, 0 past the end.
 fn byte_at(text: &[u8], at: usize) -> u8
@@ -22,8 +22,8 @@ fn is_digit(b: u8) -> bool
 }
 
 // The number of one digit or two that two bytes begin with; NONE where the first is no digit.
-fn number_of(first: u8, second: u8) -> u8
-    ensures { λ r. ⌜ r ≡ numberOf first second ⌝ }
+fn number_from(first: u8, second: u8) -> u8
+    ensures { λ r. ⌜ r ≡ numberFrom first second ⌝ }
 {
     if !is_digit(first) {
         return sets::NONE;
@@ -39,7 +39,7 @@ fn number_in(text: &[u8], at: usize) -> u8
     requires { ⌜ at ≤ 4096 ⌝ }
     ensures { λ r. ⌜ r ≡ numberIn (now (text .entry)) at ⌝ }
 {
-    number_of(byte_at(text, at), byte_at(text, at + 1))
+    number_from(byte_at(text, at), byte_at(text, at + 1))
 }
 
 // How many digits a rank or a size has.

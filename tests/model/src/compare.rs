@@ -2,9 +2,9 @@
 //! random views; who moved, by marks and by events; and pictures of fresh random views and damaged texts.
 
 use crate::cases::{answers, lines, Case};
-use crate::drawings;
 use crate::fail;
 use crate::file::read;
+use crate::picture_cases;
 use crate::random::{schedule, Random};
 use crate::random_views::cases;
 use crate::script::script;
@@ -132,12 +132,13 @@ pub fn compare_events(program: &str, seed: u64, count: u64) -> bool {
 /// Compares `count` views written and as many texts read, from the seed on, many in one run of the program; true when there was no
 /// difference.
 pub fn compare_pictures(program: &str, seed: u64, count: u64) -> bool {
+    // the program reads no more than 262,144 bytes, and a case has less than 2,000
     let batch = 100;
     let (mut written, mut read) = (0, 0);
     for from in (0..count).step_by(batch) {
-        let cases = drawings::cases(seed + from, (count - from).min(batch as u64));
-        let ours: Vec<String> = cases.iter().map(drawings::Case::answer).collect();
-        let theirs = answer(program, &drawings::bytes(&cases));
+        let cases = picture_cases::cases(seed + from, (count - from).min(batch as u64));
+        let ours: Vec<String> = cases.iter().map(picture_cases::Case::answer).collect();
+        let theirs = answer(program, &picture_cases::bytes(&cases));
         if ours.concat() != theirs {
             let at = (1..ours.len()).find(|k| !theirs.starts_with(&ours[..*k].concat())).unwrap_or(ours.len()) - 1;
             println!("seed {}: {:?}\nthe model:\n{}", seed + from + at as u64 / 2, cases[at], ours[at]);

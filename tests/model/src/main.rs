@@ -10,8 +10,8 @@
 //!     model answers < CASES                    the lines that must answer them
 //!     model compare-views PROGRAM SEED COUNT   the program's answers beside the model's, and who moved by each mark
 //!     model compare-events PROGRAM SEED COUNT  who moved by each event of random schedules, the program beside the model
-//!     model drawing < FILE                     the pictures that must be printed of FILE
-//!     model compare-drawings PROGRAM SEED COUNT  the same beside the program's, of random schedules
+//!     model pictures-of < FILE                 the pictures that must be printed of FILE
+//!     model compare-pictures-of PROGRAM SEED COUNT  the same beside the program's, of random schedules
 //!     model pictures SEED COUNT DIR            COUNT random views to write and texts to read as DIR/stdin, what must answer them as DIR/stdout
 //!     model compare-pictures PROGRAM SEED COUNT  the program's answers to such beside the model's
 //!
@@ -20,10 +20,10 @@
 
 mod cases;
 mod compare;
-mod drawings;
 mod events;
 mod file;
 mod group;
+mod picture_cases;
 mod pictures;
 mod random;
 mod random_views;
@@ -102,9 +102,9 @@ fn save(name: &str, bytes: &[u8]) {
 }
 
 fn pictures(seed: u64, count: u64, dir: &str) {
-    let cases = drawings::cases(seed, count);
-    save(&format!("{dir}/stdin"), &drawings::bytes(&cases));
-    save(&format!("{dir}/stdout"), drawings::answers(&cases).as_bytes());
+    let cases = picture_cases::cases(seed, count);
+    save(&format!("{dir}/stdin"), &picture_cases::bytes(&cases));
+    save(&format!("{dir}/stdout"), picture_cases::answers(&cases).as_bytes());
 }
 
 /// A comparison that finds a difference ends the program with 1.
@@ -129,8 +129,8 @@ fn main() {
         ["answers"] => print(cases::answers(&said(INPUT, input(), cases::read)).as_bytes()),
         ["compare-views", program, seed, count] => ends(compare::compare_views(program, number(seed), number(count))),
         ["compare-events", program, seed, count] => ends(compare::compare_events(program, number(seed), number(count))),
-        ["drawing"] => print(pictures::views(&input()).as_bytes()),
-        ["compare-drawings", program, seed, count] => {
+        ["pictures-of"] => print(pictures::views(&input()).as_bytes()),
+        ["compare-pictures-of", program, seed, count] => {
             ends(compare::compare(program, pictures::views, number(seed), number(count)))
         }
         ["pictures", seed, count, dir] => pictures(number(seed), number(count), dir),
@@ -139,7 +139,7 @@ fn main() {
             2,
             "listing | write [EVENTS] | schedule SEED | data SEED COUNT DIR | compare PROGRAM SEED COUNT | \
              views SEED COUNT | answers | compare-views PROGRAM SEED COUNT | compare-events PROGRAM SEED COUNT | \
-             drawing | compare-drawings PROGRAM SEED COUNT | pictures SEED COUNT DIR | compare-pictures PROGRAM SEED COUNT",
+             pictures-of | compare-pictures-of PROGRAM SEED COUNT | pictures SEED COUNT DIR | compare-pictures PROGRAM SEED COUNT",
         ),
     }
 }

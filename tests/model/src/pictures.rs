@@ -1,5 +1,5 @@
-//! Document 02, request 2026-03: a view as a DOT digraph, written and read. The reader goes through the text line by line and asks of each
-//! whether it may stand there; it writes no picture to compare with.
+//! Document 02, request 2026-03: a view as a DOT digraph, written and read. The reader takes the text apart into nodes and edges and holds
+//! them to the tree; it writes no picture to compare with.
 
 use crate::file;
 use crate::group::Group;

@@ -29,27 +29,27 @@ length-node : (marks p : ℕ) → length (nodeLine marks p) ≤ 24
 unfolding nodeLine shape
 length-node marks p = node-short p (has marks p) (eqb (parent flat marks p) none) _ (omega arith)
 
-length-edge : (p above : ℕ) → length (edge p above) ≤ 26
+length-edge : (p up : ℕ) → length (edge p up) ≤ 26
 unfolding edge
-length-edge p above =
+length-edge p up =
     omega (
       arith,
-      length-append (decimal p) ((32 ∷ 45 ∷ 62 ∷ 32 ∷ []) ++ (decimal above ++ (59 ∷ 10 ∷ []))),
-      length-append (decimal above) (59 ∷ 10 ∷ []),
+      length-append (decimal p) ((32 ∷ 45 ∷ 62 ∷ 32 ∷ []) ++ (decimal up ++ (59 ∷ 10 ∷ []))),
+      length-append (decimal up) (59 ∷ 10 ∷ []),
       length-decimal p,
-      length-decimal above,
+      length-decimal up,
     )
 
-length-link : (marks p : ℕ) → length (edgeLine marks p) ≤ 26
+length-edge-line : (marks p : ℕ) → length (edgeLine marks p) ≤ 26
 unfolding edgeLine
-length-link marks p = go (has marks p || eqb (parent flat marks p) none)
+length-edge-line marks p = go (has marks p || eqb (parent flat marks p) none)
   where
     go : (b : Bool) → length (cond b [] (edge p (parent flat marks p))) ≤ 26
     go true = omega arith
     go false = length-edge p (parent flat marks p)
 
 pub length-line : (marks p : ℕ) (b : Bool) → length (cond b (edgeLine marks p) (nodeLine marks p)) ≤ 26
-length-line marks p true = length-link marks p
+length-line marks p true = length-edge-line marks p
 length-line marks p false = omega (arith, length-node marks p)
 
 -- ---- lines along their code
@@ -68,13 +68,13 @@ pub node-plain : (text : List ℕ) (at marks p : ℕ) (b : Bool) (up : ℕ) (t :
 unfolding nodeLine shape
 node-plain text at marks p b up t a u c e f g h v w = rw (sym e ∙ f, ne-eqb (parent flat marks p) none (λ z. h (g ∙ z))) (wrote-then v w)
 
-pub link-none : (text : List ℕ) (at marks p : ℕ) (b : Bool) (up : ℕ) → b ≡ has marks p → up ≡ parent flat marks p → b || eqb up none ≡ true → Wrote text at (edgeLine marks p) text at
+pub edge-none : (text : List ℕ) (at marks p : ℕ) (b : Bool) (up : ℕ) → b ≡ has marks p → up ≡ parent flat marks p → b || eqb up none ≡ true → Wrote text at (edgeLine marks p) text at
 unfolding edgeLine
-link-none text at marks p b up e g h = rw (sym e, sym g, h) (wrote-nothing text at)
+edge-none text at marks p b up e g h = rw (sym e, sym g, h) (wrote-nothing text at)
 
-pub link-edge : (text : List ℕ) (at marks p : ℕ) (b : Bool) (up : ℕ) (t : List ℕ) (a : ℕ) → b ≡ has marks p → up ≡ parent flat marks p → b || eqb up none ≡ false → Wrote text at (edge p up) t a → Wrote text at (edgeLine marks p) t a
+pub edge-some : (text : List ℕ) (at marks p : ℕ) (b : Bool) (up : ℕ) (t : List ℕ) (a : ℕ) → b ≡ has marks p → up ≡ parent flat marks p → b || eqb up none ≡ false → Wrote text at (edge p up) t a → Wrote text at (edgeLine marks p) t a
 unfolding edgeLine
-link-edge text at marks p b up t a e g h w = rw (sym e, sym g, h) w
+edge-some text at marks p b up t a e g h w = rw (sym e, sym g, h) w
 
 pub line-edge : (text : List ℕ) (at marks p : ℕ) (b : Bool) (t : List ℕ) (a : ℕ) → b ≡ true → Wrote text at (edgeLine marks p) t a → Wrote text at (cond b (edgeLine marks p) (nodeLine marks p)) t a
 line-edge text at marks p b t a e w = rw e w

@@ -29,10 +29,10 @@ slice-aggregate-put-letters-2 c = search needs
 
 put-letters-requires-2 : tie.Need-put-letters-requires-2
 put-letters-requires-2 c κs =
-    let above = c .before .before .before .before in
-    let arrow = above .before .before .before .before in
+    let up = c .before .before .before .before in
+    let arrow = up .before .before .before .before in
     let rank = arrow .before .before .before .before .before in
-    omega (arith, wrote-room 10 2 (above .put-number2 .ensures) (length-decimal _) (wrote-room 4 12 (arrow .put-letters .ensures) (omega arith) (wrote-room 10 16 (rank .put-number .ensures) (length-decimal _) (rank .before .before .before .pre))))
+    omega (arith, wrote-room 10 2 (up .put-number2 .ensures) (length-decimal _) (wrote-room 4 12 (arrow .put-letters .ensures) (omega arith) (wrote-room 10 16 (rank .put-number .ensures) (length-decimal _) (rank .before .before .before .pre))))
 
 same-length : tie.Need-same-length
 same-length c = search needs
@@ -41,10 +41,10 @@ returns : tie.Need-returns
 unfolding edge
 returns c =
     let end = c .before .before in
-    let above = end .before .before .before .before .before in
-    let arrow = above .before .before .before .before in
+    let up = end .before .before .before .before .before in
+    let arrow = up .before .before .before .before in
     let rank = arrow .before .before .before .before .before in
-    wrote-then (rank .put-number .ensures) (wrote-then (arrow .put-letters .ensures) (wrote-then (above .put-number2 .ensures) (end .put-letters2 .ensures)))
+    wrote-then (rank .put-number .ensures) (wrote-then (arrow .put-letters .ensures) (wrote-then (up .put-number2 .ensures) (end .put-letters2 .ensures)))
 
 pub put-edge-spec : {M : Type 1} → statement M
 put-edge-spec =

@@ -4,8 +4,8 @@ use Rattle.dot.proofs.Laws.Lines.{line-edge, line-node}
 use Rattle.dot.proofs.put_line.Statement.{statement}
 use Rattle.dot.proofs.put_line.Tie as tie
 
-put-link-requires : tie.Need-put-link-requires
-put-link-requires c κs = search needs
+put-edge-line-requires : tie.Need-put-edge-line-requires
+put-edge-line-requires c κs = search needs
 
 same-length : tie.Need-same-length
 same-length c = search needs
@@ -13,8 +13,8 @@ same-length c = search needs
 returns : tie.Need-returns
 returns c = search line-edge
 
-put-node-requires : tie.Need-put-node-requires
-put-node-requires c κs = search needs
+put-node-line-requires : tie.Need-put-node-line-requires
+put-node-line-requires c κs = search needs
 
 same-length-2 : tie.Need-same-length-2
 same-length-2 c = search needs
@@ -25,4 +25,4 @@ returns-2 c = search line-node
 pub put-line-spec : {M : Type 1} → statement M
 put-line-spec =
     tie.close
-    (tie.spec put-link-requires same-length returns put-node-requires same-length-2 returns-2)
+    (tie.spec put-edge-line-requires same-length returns put-node-line-requires same-length-2 returns-2)

@@ -1,4 +1,4 @@
--- `report` meets its contract: a refused run has its one line, an accepted one its views. Assumes nothing.
+-- `report` meets its contract: a refused run has its one line, an accepted one its pictures. Assumes nothing.
 use mathlib.Core.Path.{sym}
 use lib.Seq.{length-take-le}
 use borrow.Author.Needs.{needs}

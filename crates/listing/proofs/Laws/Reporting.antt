@@ -23,6 +23,11 @@ use Rattle.listing.proofs.Laws.Lines.{length-listing}
 
 -- ---- the report along its code
 
+-- A refused run is reported by its line alone.
+pub report-line : (file out : List ℕ) → (run flat file out .answer ≡ 0 → ⊥) → report flat file out ≡ refusedLine (run flat file out .answer)
+unfolding report reportOf
+report-line file out d = rw (ne-eqb (run flat file out .answer) 0 d)
+
 pub report-refused : (file out : List ℕ) (a : ℕ) (text t : List ℕ) (next : ℕ) → a ≡ run flat file out .answer → (a ≡ 0 → ⊥) → Wrote text 0 (refusedLine a) t next → Wrote text 0 (report flat file out) t next
 unfolding report reportOf
 report-refused file out a text t next e d w = rw (sym e, ne-eqb a 0 d) w

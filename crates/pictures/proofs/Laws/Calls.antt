@@ -6,7 +6,7 @@ use Prim.Native.Nat.{ℕ, _^_, _≤_, _<_}
 use native.Mathlib.Omega.{arith}
 use lib.Dec.{eqb, ltb}
 use lib.ListN.{length, take}
-use lib.Seq.{length-take-le}
+use lib.Seq.{length-take-le, take-all}
 use borrow.Author.Tests.{lt-ltb, le-ltb, ltb-true, ltb-false, eq-eqb, ne-eqb, eqb-true, not-true, not-false}
 use Rattle.sets.specs.Sets.{has, minus, below}
 use Rattle.sets.proofs.Laws.Bools.{clash, fails, or-none, or-neither, not-o}
@@ -17,7 +17,7 @@ use Rattle.text.specs.Text.{Wrote, pasted}
 use Rattle.text.proofs.Laws.Writing.{wrote-kept, wrote-taken}
 use Rattle.proposing.specs.Proposing.{sizeIn, marksIn}
 use Rattle.pictures.specs.Pictures.{picture, pictureRoom}
-use Rattle.pictures.specs.Writing.{wrongMarks, Writing, reply, refusedWriting, acceptedWriting, fitting, writing}
+use Rattle.pictures.specs.Writing.{wrongMarks, Outcome, reply, refusedWriting, acceptedWriting, roomFor, writing}
 use Rattle.pictures.specs.Reading.{IsView, Reads, a-picture, no-picture}
 use Rattle.pictures.specs.declared.Written.{Written}
 use Rattle.pictures.specs.declared.Viewed.{Viewed}
@@ -63,7 +63,7 @@ picture-fits n marks l t a b r w = omega (arith, w .next-is, wrote-kept w, lengt
 pub picture-length : (n marks : ℕ) (l t : List ℕ) (a : ℕ) → n ≤ 64 → pictureRoom ≤ length l → Wrote l 0 (picture n marks) t a → a ≡ length (take a t)
 picture-length n marks l t a b r w = sym (length-take-le a t (picture-fits n marks l t a b r w))
 
-pub picture-taken : (n marks : ℕ) (l t : List ℕ) (a : ℕ) → n ≤ 64 → pictureRoom ≤ length l → Wrote l 0 (picture n marks) t a → take a t ≡ picture n marks
+picture-taken : (n marks : ℕ) (l t : List ℕ) (a : ℕ) → n ≤ 64 → pictureRoom ≤ length l → Wrote l 0 (picture n marks) t a → take a t ≡ picture n marks
 picture-taken n marks l t a b r w = wrote-taken w (omega (arith, length-picture n marks b))
 
 -- ---- write
@@ -76,41 +76,41 @@ pub write-marks : (n marks : ℕ) (text : List ℕ) (b c : Bool) (r : Written) �
 unfolding writing refusedWriting
 write-marks n marks text b c r e t f u g = rw (g, sym e ∙ t, sym f ∙ u)
 
-pub write-fit : (n marks : ℕ) (text : List ℕ) (b c : Bool) (r : Written) (u : List ℕ) → b ≡ wrongSize n → b ≡ false → c ≡ wrongMarks n marks → c ≡ false → reply r u ≡ fitting (picture n marks) text → reply r u ≡ writing n marks text
+pub write-fit : (n marks : ℕ) (text : List ℕ) (b c : Bool) (r : Written) (u : List ℕ) → b ≡ wrongSize n → b ≡ false → c ≡ wrongMarks n marks → c ≡ false → reply r u ≡ roomFor (picture n marks) text → reply r u ≡ writing n marks text
 unfolding writing
 write-fit n marks text b c r u e t f v g = rw (sym e ∙ t, sym f ∙ v) g
 
-pub fit-not : (n marks : ℕ) (text : List ℕ) (r : Written) (l t : List ℕ) (a : ℕ) → Wrote l 0 (picture n marks) t a → length text < a → r ≡ record { answer = 30; length = 0 } → reply r text ≡ fitting (picture n marks) text
-unfolding fitting refusedWriting
+pub fit-not : (n marks : ℕ) (text : List ℕ) (r : Written) (l t : List ℕ) (a : ℕ) → Wrote l 0 (picture n marks) t a → length text < a → r ≡ record { answer = 30; length = 0 } → reply r text ≡ roomFor (picture n marks) text
+unfolding roomFor refusedWriting
 fit-not n marks text r l t a w s g = rw (g, lt-ltb (length text) (length (picture n marks)) (omega (arith, w .next-is)))
 
 pub fit-all : (n marks : ℕ) (text l t : List ℕ) (a : ℕ) (u : List ℕ) (k : ℕ) → n ≤ 64 → pictureRoom ≤ length l → Wrote l 0 (picture n marks) t a → a ≤ length text → Wrote text 0 (take a t) u k
-    → _≡_ {A = Writing} (record { answer = 0; length = a; text = u }) (fitting (picture n marks) text)
-unfolding fitting acceptedWriting
+    → _≡_ {A = Outcome} (record { answer = 0; length = a; text = u }) (roomFor (picture n marks) text)
+unfolding roomFor acceptedWriting
 fit-all n marks text l t a u k b r w s v =
     let z : a ≡ length (picture n marks) = omega (arith, w .next-is) in
     rw (le-ltb (length text) (length (picture n marks)) (omega arith), v .text-is, picture-taken n marks l t a b r w, z)
 
 -- What is written, by cases.
-pub data WritingIs (n marks : ℕ) (text : List ℕ) : Writing → Type 0 where
-  bad-size : wrongSize n ≡ true → WritingIs n marks text (refusedWriting 1 text)
-  bad-marks : wrongSize n ≡ false → wrongMarks n marks ≡ true → WritingIs n marks text (refusedWriting 2 text)
-  no-room : IsView n marks → length text < length (picture n marks) → WritingIs n marks text (refusedWriting 30 text)
-  whole : IsView n marks → length (picture n marks) ≤ length text → WritingIs n marks text (acceptedWriting (picture n marks) text)
+pub data OutcomeIs (n marks : ℕ) (text : List ℕ) : Outcome → Type 0 where
+  bad-size : wrongSize n ≡ true → OutcomeIs n marks text (refusedWriting 1 text)
+  bad-marks : wrongSize n ≡ false → wrongMarks n marks ≡ true → OutcomeIs n marks text (refusedWriting 2 text)
+  no-room : IsView n marks → length text < length (picture n marks) → OutcomeIs n marks text (refusedWriting 30 text)
+  whole : IsView n marks → length (picture n marks) ≤ length text → OutcomeIs n marks text (acceptedWriting (picture n marks) text)
 
-pub writing-cases : (n marks : ℕ) (text : List ℕ) → WritingIs n marks text (writing n marks text)
-unfolding writing fitting
+pub writing-cases : (n marks : ℕ) (text : List ℕ) → OutcomeIs n marks text (writing n marks text)
+unfolding writing roomFor
 writing-cases n marks text = go (wrongSize n) refl (wrongMarks n marks) refl (ltb (length text) (length (picture n marks))) refl
   where
     go : (b : Bool) → wrongSize n ≡ b → (c : Bool) → wrongMarks n marks ≡ c → (d : Bool) → ltb (length text) (length (picture n marks)) ≡ d
-        → WritingIs n marks text (cond b (refusedWriting 1 text) (cond c (refusedWriting 2 text) (cond d (refusedWriting 30 text) (acceptedWriting (picture n marks) text))))
+        → OutcomeIs n marks text (cond b (refusedWriting 1 text) (cond c (refusedWriting 2 text) (cond d (refusedWriting 30 text) (acceptedWriting (picture n marks) text))))
     go true e c f d g = bad-size e
     go false e true f d g = bad-marks e f
     go false e false f true g = no-room (record { sized = e; leaves = f }) (ltb-true (length text) (length (picture n marks)) g)
     go false e false f false g = whole (record { sized = e; leaves = f }) (ltb-false (length text) (length (picture n marks)) g)
 
 -- An accepted write is of a view, and the picture stands at the buffer's start.
-written-is : (n marks : ℕ) (text : List ℕ) (w : Writing) → WritingIs n marks text w → w .answer ≡ 0 → IsView n marks × (take (w .length) (w .text) ≡ picture n marks)
+written-is : (n marks : ℕ) (text : List ℕ) (w : Outcome) → OutcomeIs n marks text w → w .answer ≡ 0 → IsView n marks × (take (w .length) (w .text) ≡ picture n marks)
 unfolding refusedWriting acceptedWriting
 written-is n marks text w (bad-size e) z = absurd (omega arith)
 written-is n marks text w (bad-marks e f) z = absurd (omega arith)
@@ -123,15 +123,12 @@ pub accepted-writing : (n marks : ℕ) (text : List ℕ) → writing n marks tex
 accepted-writing n marks text z = written-is n marks text (writing n marks text) (writing-cases n marks text) z
 
 -- A view is written where there is room.
-written-view : (n marks : ℕ) (text : List ℕ) (w : Writing) → WritingIs n marks text w → IsView n marks → length (picture n marks) ≤ length text → w .answer ≡ 0
+pub written-view : (n marks : ℕ) (text : List ℕ) (w : Outcome) → OutcomeIs n marks text w → IsView n marks → length (picture n marks) ≤ length text → w .answer ≡ 0
 unfolding refusedWriting acceptedWriting
 written-view n marks text w (bad-size e) v l = absurd (clash (wrongSize n) e (v .sized))
 written-view n marks text w (bad-marks e f) v l = absurd (clash (wrongMarks n marks) f (v .leaves))
 written-view n marks text w (no-room v m) u l = absurd (omega arith)
 written-view n marks text w (whole v m) u l = refl
-
-pub view-written : (n marks : ℕ) (text : List ℕ) → IsView n marks → length (picture n marks) ≤ length text → writing n marks text .answer ≡ 0
-view-written n marks text v l = written-view n marks text (writing n marks text) (writing-cases n marks text) v l
 
 -- ---- read
 
@@ -182,8 +179,12 @@ read-view text n marks b c d e t f u p s = a-picture n marks (record { sized = s
 
 -- ---- a text is the picture, along its code
 
-pub same-picture : (text : List ℕ) (n marks : ℕ) (l t : List ℕ) (a : ℕ) (d : Bool) → n ≤ 64 → pictureRoom ≤ length l → Wrote l 0 (picture n marks) t a → (d ≡ true → text ≡ take a t) × (text ≡ take a t → d ≡ true)
-    → (d ≡ true → text ≡ picture n marks) × (text ≡ picture n marks → d ≡ true)
-same-picture text n marks l t a d b r w h =
+pub other-length : (text : List ℕ) (n marks : ℕ) (l t : List ℕ) (a : ℕ) → Wrote l 0 (picture n marks) t a → (length text ≡ a → ⊥) → (false ≡ true → text ≡ picture n marks) × (text ≡ picture n marks → false ≡ true)
+other-length text n marks l t a w d = (λ e. absurd (clash false e refl), λ e. absurd (d (let z : length text ≡ a = omega (arith, w .next-is, ap length e) in z)))
+
+pub same-picture : (text : List ℕ) (n marks : ℕ) (l t : List ℕ) (a : ℕ) (d : Bool) → n ≤ 64 → pictureRoom ≤ length l → Wrote l 0 (picture n marks) t a → length text ≡ a
+    → (d ≡ true → take a text ≡ take a t) × (take a text ≡ take a t → d ≡ true) → (d ≡ true → text ≡ picture n marks) × (text ≡ picture n marks → d ≡ true)
+same-picture text n marks l t a d b r w s h =
     let p = picture-taken n marks l t a b r w in
-    (λ e. h .0 e ∙ p, λ e. h .1 (e ∙ sym p))
+    let q : take a text ≡ text = take-all a text (omega arith) in
+    (λ e. sym q ∙ (h .0 e ∙ p), λ e. h .1 (q ∙ (e ∙ sym p)))

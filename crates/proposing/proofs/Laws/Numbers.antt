@@ -13,7 +13,7 @@ use Rattle.sets.specs.Sets.{none}
 use Rattle.sets.proofs.Laws.Bools.{and-i, lt-or-le}
 use Rattle.text.specs.Text.{decimal}
 use Rattle.text.proofs.Laws.Digits.{decimal-one, decimal-two, decimal-short}
-use Rattle.proposing.specs.Proposing.{isDigit, numberOf, numberIn, width, afterNode, marksFrom, sizeIn, marksIn}
+use Rattle.proposing.specs.Proposing.{isDigit, numberFrom, numberIn, width, afterNode, marksFrom, sizeIn, marksIn}
 
 -- ---- bytes that are digits, and bytes that end a number
 
@@ -44,16 +44,16 @@ width-is p m = sym (decimal-short p m)
 second : (pre : List ℕ) (x y : ℕ) (rest : List ℕ) → getD (pre ++ (x ∷ y ∷ rest)) (length pre + 1) 0 ≡ y
 second pre x y rest = getD-append-add pre (x ∷ y ∷ rest) 1 0
 
-number-bytes : (pre : List ℕ) (x y : ℕ) (rest : List ℕ) → numberIn (pre ++ (x ∷ y ∷ rest)) (length pre) ≡ numberOf x y
+number-bytes : (pre : List ℕ) (x y : ℕ) (rest : List ℕ) → numberIn (pre ++ (x ∷ y ∷ rest)) (length pre) ≡ numberFrom x y
 unfolding numberIn
 number-bytes pre x y rest = rw (getD-append-seam pre x (y ∷ rest) 0, second pre x y rest)
 
-of-one : (p c : ℕ) → p < 10 → isDigit c ≡ false → numberOf (48 + p) c ≡ p
-unfolding numberOf
+of-one : (p c : ℕ) → p < 10 → isDigit c ≡ false → numberFrom (48 + p) c ≡ p
+unfolding numberFrom
 of-one p c l e = rw (digit-is p l, e) (let z : 48 + p - 48 ≡ p = omega arith in z)
 
-of-two : (p : ℕ) → 10 ≤ p → p < 100 → numberOf (48 + p / 10) (48 + p % 10) ≡ p
-unfolding numberOf
+of-two : (p : ℕ) → 10 ≤ p → p < 100 → numberFrom (48 + p / 10) (48 + p % 10) ≡ p
+unfolding numberFrom
 of-two p l m =
     rw (digit-is (p / 10) (omega arith), digit-is (p % 10) (omega arith))
     (let z : 10 * (48 + p / 10 - 48) + (48 + p % 10 - 48) ≡ p = omega arith in z)
@@ -70,7 +70,7 @@ number-read pre p c rest m e = ⊎-elim one two (lt-or-le p 10)
 
 -- Where no digit stands there is none.
 pub number-unread : (pre : List ℕ) (c : ℕ) (rest : List ℕ) → isDigit c ≡ false → numberIn (pre ++ (c ∷ rest)) (length pre) ≡ none
-unfolding numberIn numberOf
+unfolding numberIn numberFrom
 number-unread pre c rest e = rw (getD-append-seam pre c rest 0, e)
 
 -- The line of a rank ends two bytes after its number, or fourteen.

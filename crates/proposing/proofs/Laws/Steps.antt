@@ -9,7 +9,7 @@ use lib.ListN.{length, getD, List·getD-eq-default}
 use borrow.Author.Tests.{lt-ltb, le-ltb, eq-eqb, ne-eqb, leb-true, not-true, not-false}
 use Rattle.sets.specs.Sets.{none, add}
 use Rattle.sets.proofs.Laws.Bools.{and-l, and-r}
-use Rattle.proposing.specs.Proposing.{isDigit, numberOf, numberIn, width, afterNode, marksFrom, marksIn}
+use Rattle.proposing.specs.Proposing.{isDigit, numberFrom, numberIn, width, afterNode, marksFrom, marksIn}
 
 -- ---- digits
 
@@ -21,16 +21,16 @@ pub digit-to : (b : ℕ) (d : Bool) → d ≡ isDigit b → not d ≡ false → 
 unfolding isDigit
 digit-to b d e n = leb-true b 57 (and-r (leb 48 b) (leb b 57) (sym e ∙ not-false d n))
 
-pub number-none : (x y : ℕ) (d : Bool) → d ≡ isDigit x → not d ≡ true → none ≡ numberOf x y
-unfolding numberOf
+pub number-none : (x y : ℕ) (d : Bool) → d ≡ isDigit x → not d ≡ true → none ≡ numberFrom x y
+unfolding numberFrom
 number-none x y d e n = rw (sym e ∙ not-true d n)
 
-pub number-one : (x y : ℕ) (d f : Bool) → d ≡ isDigit x → not d ≡ false → f ≡ isDigit y → not f ≡ true → x - 48 ≡ numberOf x y
-unfolding numberOf
+pub number-one : (x y : ℕ) (d f : Bool) → d ≡ isDigit x → not d ≡ false → f ≡ isDigit y → not f ≡ true → x - 48 ≡ numberFrom x y
+unfolding numberFrom
 number-one x y d f e n g m = rw (sym e ∙ not-false d n, sym g ∙ not-true f m)
 
-pub number-two : (x y : ℕ) (d f : Bool) → d ≡ isDigit x → not d ≡ false → f ≡ isDigit y → not f ≡ false → 10 * (x - 48) + (y - 48) ≡ numberOf x y
-unfolding numberOf
+pub number-two : (x y : ℕ) (d f : Bool) → d ≡ isDigit x → not d ≡ false → f ≡ isDigit y → not f ≡ false → 10 * (x - 48) + (y - 48) ≡ numberFrom x y
+unfolding numberFrom
 number-two x y d f e n g m = rw (sym e ∙ not-false d n, sym g ∙ not-false f m)
 
 -- ---- widths and places
@@ -46,7 +46,7 @@ pub width-two : (p : ℕ) → 10 ≤ p → 2 ≡ width p
 unfolding width
 width-two p l = rw (le-ltb p 10 l)
 
-pub width-le : (p : ℕ) → width p ≤ 2
+width-le : (p : ℕ) → width p ≤ 2
 unfolding width
 width-le p = go (ltb p 10)
   where
@@ -65,7 +65,7 @@ pub after-box : (text : List ℕ) (at p w b : ℕ) → w ≡ width p → b ≡ g
 unfolding afterNode
 after-box text at p w b e f g = rw (sym e, sym f, ne-eqb b 59 g)
 
-pub after-le : (text : List ℕ) (at p : ℕ) → afterNode text at p ≤ at + 16
+after-le : (text : List ℕ) (at p : ℕ) → afterNode text at p ≤ at + 16
 unfolding afterNode
 after-le text at p = go (eqb (getD text (at + width p) 0) 59)
   where

@@ -13,8 +13,8 @@ add-byte-at c = search needs
 byte-at-requires-2 : tie.Need-byte-at-requires-2
 byte-at-requires-2 c κs = search needs
 
-number-of-requires : tie.Need-number-of-requires
-number-of-requires c κs = search needs
+number-from-requires : tie.Need-number-from-requires
+number-from-requires c κs = search needs
 
 returns : tie.Need-returns
 unfolding numberIn
@@ -22,4 +22,4 @@ returns c = cc
 
 pub number-in-spec : {M : Type 1} → statement M
 number-in-spec =
-    tie.close (tie.spec byte-at-requires add-byte-at byte-at-requires-2 number-of-requires returns)
+    tie.close (tie.spec byte-at-requires add-byte-at byte-at-requires-2 number-from-requires returns)

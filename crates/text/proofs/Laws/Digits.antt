@@ -53,7 +53,7 @@ pub decimal-one : (x : ℕ) → x < 10 → decimal x ≡ (48 + x) ∷ []
 unfolding decimal digitsOf
 decimal-one x l = rw (lt-ltb x 10 l)
 
-pub decimal-more : (x : ℕ) → x < 2 ^ 32 → 10 ≤ x → decimal x ≡ decimal (x / 10) ++ ((48 + x % 10) ∷ [])
+decimal-more : (x : ℕ) → x < 2 ^ 32 → 10 ≤ x → decimal x ≡ decimal (x / 10) ++ ((48 + x % 10) ∷ [])
 unfolding decimal
 decimal-more x w l = digits-last 9 x l ∙ ap (λ (d : List ℕ). d ++ ((48 + x % 10) ∷ [])) (sym (digits-more 8 (x / 10) (omega arith)))
 

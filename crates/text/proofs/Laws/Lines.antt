@@ -1,4 +1,4 @@
--- Lines one after the other: before line k the first k stand. Assumes nothing.
+-- Lines one after the other: along a loop that writes them, from the first on, and how long they are. Assumes nothing.
 use mathlib.Core.Path.{_≡_, refl, sym, ap, subst, _∙_}
 use mathlib.Core.List.{List, [], _++_, append-nil, append-assoc}
 use Prim.Native.Nat.{ℕ, zero, suc, _+_, _*_, _≤_, _<_}
@@ -46,7 +46,7 @@ lining-step f m total text₀ at text next k t a p l w = record {
 pub lining-end : (f : ℕ → List ℕ) (m total : ℕ) (text₀ : List ℕ) (at : ℕ) (text : List ℕ) (next k : ℕ) → Lining f m total text₀ at text next k → total ≤ k → Wrote text₀ at (lines f total) text next
 lining-end f m total text₀ at text next k p l = let e : k ≡ total = omega (arith, p .within) in subst (λ (x : ℕ). Wrote text₀ at (lines f x) text next) e (p .wrote)
 
--- lines are a matter of the lines
+-- lines that are alike one by one are alike together
 pub lines-same : (f g : ℕ → List ℕ) (k : ℕ) → ((i : ℕ) → i < k → f i ≡ g i) → lines f k ≡ lines g k
 unfolding lines
 lines-same f g zero h = refl

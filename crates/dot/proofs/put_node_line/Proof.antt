@@ -1,11 +1,11 @@
--- `put_node` meets its contract: two tests, and one piece after the other, 24 bytes at most. Assumes nothing.
+-- `put_node_line` meets its contract: two tests, and one piece after the other, 24 bytes at most. Assumes nothing.
 use borrow.Author.Needs.{needs}
 use native.Mathlib.Omega.{arith}
 use Rattle.text.proofs.Laws.Writing.{wrote-room}
 use Rattle.text.proofs.Laws.Digits.{length-decimal}
 use Rattle.dot.proofs.Laws.Lines.{node-marked, node-root, node-plain}
-use Rattle.dot.proofs.put_node.Statement.{statement}
-use Rattle.dot.proofs.put_node.Tie as tie
+use Rattle.dot.proofs.put_node_line.Statement.{statement}
+use Rattle.dot.proofs.put_node_line.Tie as tie
 
 member-requires : tie.Need-member-requires
 member-requires c κs = search needs
@@ -47,8 +47,8 @@ same-length-2 c = search needs
 returns-3 : tie.Need-returns-3
 returns-3 c = search node-plain
 
-pub put-node-spec : {M : Type 1} → statement M
-put-node-spec =
+pub put-node-line-spec : {M : Type 1} → statement M
+put-node-line-spec =
     tie.close
     (tie.spec
     member-requires

@@ -1,14 +1,14 @@
--- `put_view` meets its contract: one test. Assumes nothing.
+-- `put_rank` meets its contract: one test. Assumes nothing.
 use borrow.Author.Needs.{needs}
-use Rattle.drawing.proofs.Laws.Drawing.{view-dead, view-living}
-use Rattle.drawing.proofs.put_view.Statement.{statement}
-use Rattle.drawing.proofs.put_view.Tie as tie
+use Rattle.drawing.proofs.Laws.Drawing.{rank-dead, rank-living}
+use Rattle.drawing.proofs.put_rank.Statement.{statement}
+use Rattle.drawing.proofs.put_rank.Tie as tie
 
 member-requires : tie.Need-member-requires
 member-requires c κs = search needs
 
 returns : tie.Need-returns
-returns c = search view-dead
+returns c = search rank-dead
 
 put-picture-requires : tie.Need-put-picture-requires
 put-picture-requires c κs = search needs
@@ -17,8 +17,8 @@ same-length : tie.Need-same-length
 same-length c = search needs
 
 returns-2 : tie.Need-returns-2
-returns-2 c = search view-living
+returns-2 c = search rank-living
 
-pub put-view-spec : {M : Type 1} → statement M
-put-view-spec =
+pub put-rank-spec : {M : Type 1} → statement M
+put-rank-spec =
     tie.close (tie.spec member-requires returns put-picture-requires same-length returns-2)

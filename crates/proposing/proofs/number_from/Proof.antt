@@ -1,9 +1,9 @@
--- `number_of` meets its contract: two tests; a digit less 48 is below ten. Assumes nothing.
+-- `number_from` meets its contract: two tests; a digit less 48 is below ten. Assumes nothing.
 use borrow.Author.Needs.{needs}
 use native.Mathlib.Omega.{arith}
 use Rattle.proposing.proofs.Laws.Steps.{digit-from, digit-to, number-none, number-one, number-two}
-use Rattle.proposing.proofs.number_of.Statement.{statement}
-use Rattle.proposing.proofs.number_of.Tie as tie
+use Rattle.proposing.proofs.number_from.Statement.{statement}
+use Rattle.proposing.proofs.number_from.Tie as tie
 
 is-digit-requires : tie.Need-is-digit-requires
 is-digit-requires c κs = search needs
@@ -35,8 +35,8 @@ add-result c = record { fits = omega (arith, digit-to _ _ (c .before .before .be
 returns-3 : tie.Need-returns-3
 returns-3 c = number-two _ _ _ _ (c .before .before .before .is-digit .ensures) (c .before .before .if1 .left) (c .before .is-digit2 .ensures) (c .if2 .left)
 
-pub number-of-spec : {M : Type 1} → statement M
-number-of-spec =
+pub number-from-spec : {M : Type 1} → statement M
+number-from-spec =
     tie.close
     (tie.spec
     is-digit-requires
