@@ -8,3 +8,4 @@ pub mod Finding
 pub mod Mending
 pub mod Climbing
 pub mod Calls
+pub mod Marks

@@ -1,9 +1,11 @@
 //! The programs beside the model: what is printed of fresh random schedules, a difference made as small as can be; marks and climbs on fresh
-//! random views; who moved, by marks and by events; and pictures of fresh random views and damaged texts.
+//! random views; who moved, by marks and by events; the views after deaths told in two orders; and pictures of fresh random views and damaged
+//! texts.
 
 use crate::cases::{answers, lines, Case};
 use crate::fail;
-use crate::file::read;
+use crate::file::{read, write, MOST};
+use crate::news::two_orders;
 use crate::picture_cases;
 use crate::random::{schedule, Random};
 use crate::random_views::cases;
@@ -126,6 +128,30 @@ pub fn compare_events(program: &str, seed: u64, count: u64) -> bool {
         twice += script.answers.iter().filter(|a| a.moved.count as usize > a.moved.ranks.len()).count();
     }
     println!("{events} events of {schedules} schedules, {twice} with a count above the set's size, no difference");
+    true
+}
+
+/// Compares what the program prints of schedules from the seed on with every death told in one order and in another, of those of `count`
+/// where that is accepted; true when there was no difference.
+pub fn compare_orders(program: &str, seed: u64, count: u64) -> bool {
+    let (mut pairs, mut moves, mut sends) = (0, 0, 0);
+    for k in seed..seed + count {
+        let mut random = Random::new(k);
+        let Ok((n, events)) = read(&schedule(&mut random)) else { continue };
+        let Some(orders) = two_orders(&mut random, n, &events) else { continue };
+        if orders.one.len() == events.len() || orders.other.len() > MOST {
+            continue;
+        }
+        let [one, other] = [orders.one, orders.other].map(|events| answer(program, &write(n as u8, &events)));
+        if one != other {
+            println!("seed {k}, in one order:\n{one}in the other:\n{other}{pairs} pairs alike, then a difference");
+            return false;
+        }
+        pairs += 1;
+        moves += orders.moves as u32;
+        sends += orders.sends as u32;
+    }
+    println!("{pairs} pairs of orders, {moves} with another moved count, {sends} with other messages, no difference in the views");
     true
 }
 

@@ -89,10 +89,21 @@ mod tests {
 
     #[test]
     fn examples() {
-        for name in ["three", "broken_middle", "root_dies", "two_roots", "sixty_four", "reporter_hangs"] {
+        let orders = ["inner_first", "leaf_first", "parent_first", "root_first"];
+        let others = ["three", "broken_middle", "root_dies", "two_roots", "sixty_four", "reporter_hangs"];
+        for name in others.iter().chain(&orders) {
             let bytes = std::fs::read(format!("{EXAMPLES}/{name}.agr")).expect("a schedule");
             assert_eq!(written(&example(&format!("{name}.events"))), Ok(bytes.clone()), "{name}");
             assert_eq!(listing(&bytes), example(&format!("{name}.listing")), "{name}");
+        }
+    }
+
+    /// Request 2026-06: other listings, and the same views in the end.
+    #[test]
+    fn orders() {
+        for (one, other) in [("inner_first", "leaf_first"), ("parent_first", "root_first")] {
+            assert_ne!(example(&format!("{one}.listing")), example(&format!("{other}.listing")));
+            assert_eq!(example(&format!("{one}.views")), example(&format!("{other}.views")));
         }
     }
 

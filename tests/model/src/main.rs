@@ -12,6 +12,8 @@
 //!     model compare-events PROGRAM SEED COUNT  who moved by each event of random schedules, the program beside the model
 //!     model pictures-of < FILE                 the pictures that must be printed of FILE
 //!     model compare-pictures-of PROGRAM SEED COUNT  the same beside the program's, of random schedules
+//!     model compare-orders PROGRAM SEED COUNT  the pictures that the program prints of random schedules, once with every death told in one
+//!                                              order after them and once in another
 //!     model pictures SEED COUNT DIR            COUNT random views to write and texts to read as DIR/stdin, what must answer them as DIR/stdout
 //!     model compare-pictures PROGRAM SEED COUNT  the program's answers to such beside the model's
 //!
@@ -23,6 +25,7 @@ mod compare;
 mod events;
 mod file;
 mod group;
+mod news;
 mod picture_cases;
 mod pictures;
 mod random;
@@ -133,13 +136,15 @@ fn main() {
         ["compare-pictures-of", program, seed, count] => {
             ends(compare::compare(program, pictures::views, number(seed), number(count)))
         }
+        ["compare-orders", program, seed, count] => ends(compare::compare_orders(program, number(seed), number(count))),
         ["pictures", seed, count, dir] => pictures(number(seed), number(count), dir),
         ["compare-pictures", program, seed, count] => ends(compare::compare_pictures(program, number(seed), number(count))),
         _ => fail(
             2,
             "listing | write [EVENTS] | schedule SEED | data SEED COUNT DIR | compare PROGRAM SEED COUNT | \
              views SEED COUNT | answers | compare-views PROGRAM SEED COUNT | compare-events PROGRAM SEED COUNT | \
-             pictures-of | compare-pictures-of PROGRAM SEED COUNT | pictures SEED COUNT DIR | compare-pictures PROGRAM SEED COUNT",
+             pictures-of | compare-pictures-of PROGRAM SEED COUNT | compare-orders PROGRAM SEED COUNT | \
+             pictures SEED COUNT DIR | compare-pictures PROGRAM SEED COUNT",
         ),
     }
 }

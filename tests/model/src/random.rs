@@ -57,7 +57,7 @@ struct Manner {
 }
 
 /// The notices that a living rank has still to get.
-fn owed_notices(g: &Group) -> Vec<(u32, u32)> {
+pub fn owed_notices(g: &Group) -> Vec<(u32, u32)> {
     let living = (0..g.n).filter(|a| g.lives(*a));
     living.flat_map(|a| g.dead.iter().map(move |b| (a, *b)))
         .filter(|(a, b)| !g.ranks[*a as usize].marks.contains(b))

@@ -92,6 +92,12 @@ module _ (anc : ℕ → ℕ) (s : State) (o : InOrder anc s) (kind a b : ℕ) (z
   rows-stay e j =
       ⊎-elim (λ (q : j ≡ subjectOf s kind a). subst (λ (i : ℕ). rowAt (event anc s kind a b .state) i ≡ rowAt s i) (sym q) (subject-stays e)) (λ (q : j ≡ subjectOf s kind a → ⊥). others-stay j q .1) (eq-or-ne j (subjectOf s kind a))
 
+  -- and every rank's marks
+  marks-stay : actingOn anc s kind a b .rank .marks ≡ rankAt s (subjectOf s kind a) .marks → (j : ℕ) → rankAt (event anc s kind a b .state) j .marks ≡ rankAt s j .marks
+  marks-stay e j =
+      ⊎-elim (λ (q : j ≡ subjectOf s kind a). subst (λ (i : ℕ). rankAt (event anc s kind a b .state) i .marks ≡ rankAt s i .marks) (sym q) (subject-knows (rankAt s (subjectOf s kind a) .marks) e))
+      (λ (q : j ≡ subjectOf s kind a → ⊥). ap (λ (r : Rank). r .marks) (others-stay j q .0)) (eq-or-ne j (subjectOf s kind a))
+
   -- a message that is delivered is in order
   pub delivered-in-order : kind ≡ 2 → MessageInOrder (s .group .n) (s .group .dead) (placeAt s a)
   delivered-in-order k = facts .message a (clean-place _ _ _ _ _ _ _ _ (step-taken anc s kind a b (event-accepted anc s kind a b o z) .clean) (names-a-place kind k))
@@ -108,6 +114,10 @@ module _ (anc : ℕ → ℕ) (s : State) (o : InOrder anc s) (kind a b : ℕ) (z
   -- So do all but a notice and the delivery of an ASK.
   pub others-move-nothing : (kind ≡ 4 → ⊥) → (kind ≡ 2 → placeAt s a .kind ≡ ask → ⊥) → (j : ℕ) → rowAt (event anc s kind a b .state) j ≡ rowAt s j
   others-move-nothing h k = rows-stay (Knowing.other-calm anc _ _ b _ _ _ _ kind h (λ e. word-or-ask e (k e)) .0)
+
+  -- Nor does a rank learn of a death by them.
+  pub others-tell-nothing : (kind ≡ 4 → ⊥) → (kind ≡ 2 → placeAt s a .kind ≡ ask → ⊥) → (j : ℕ) → rankAt (event anc s kind a b .state) j .marks ≡ rankAt s j .marks
+  others-tell-nothing h k = marks-stay (Knowing.other-calm anc _ _ b _ _ _ _ kind h (λ e. word-or-ask e (k e)) .0)
 
 -- ---- a notice
 
@@ -146,11 +156,17 @@ module _ (anc : ℕ → ℕ) (s : State) (o : InOrder anc s) (a b : ℕ) (z : ev
   pub delivery-about : subjectOf s 2 a ≡ placeAt s a .to
   delivery-about = subject-receives s 2 a (names-a-place 2 refl)
 
-  -- A message to a dead rank, or from a sender that the receiver has marked, leaves every row as it was.
-  pub dropped-moves-nothing : has (s .group .dead) (placeAt s a .to) || has (rankAt s (placeAt s a .to) .marks) (placeAt s a .from) ≡ true → (j : ℕ) → rowAt (event anc s 2 a b .state) j ≡ rowAt s j
-  dropped-moves-nothing t =
-      rows-stay anc s o 2 a b z
-      (Knowing.dropped-calm anc _ _ b _ _ _ _ (is-dropped (s .group .dead) (subjectOf s 2 a) (placeAt s a) (rankAt s (subjectOf s 2 a)) (subst (λ (i : ℕ). has (s .group .dead) i || has (rankAt s i .marks) (placeAt s a .from) ≡ true) (sym delivery-about) t)) .0)
+  module _ (t : has (s .group .dead) (placeAt s a .to) || has (rankAt s (placeAt s a .to) .marks) (placeAt s a .from) ≡ true) where
+    dropped-calm : actingOn anc s 2 a b .rank .marks ≡ rankAt s (subjectOf s 2 a) .marks
+    dropped-calm =
+        Knowing.dropped-calm anc _ _ b _ _ _ _ (is-dropped (s .group .dead) (subjectOf s 2 a) (placeAt s a) (rankAt s (subjectOf s 2 a)) (subst (λ (i : ℕ). has (s .group .dead) i || has (rankAt s i .marks) (placeAt s a .from) ≡ true) (sym delivery-about) t)) .0
+
+    -- A message to a dead rank, or from a sender that the receiver has marked, leaves every row as it was, and every rank's marks.
+    pub dropped-moves-nothing : (j : ℕ) → rowAt (event anc s 2 a b .state) j ≡ rowAt s j
+    dropped-moves-nothing = rows-stay anc s o 2 a b z dropped-calm
+
+    pub dropped-tells-nothing : (j : ℕ) → rankAt (event anc s 2 a b .state) j .marks ≡ rankAt s j .marks
+    dropped-tells-nothing = marks-stay anc s o 2 a b z dropped-calm
 
   module _ (k : placeAt s a .kind ≡ ask) (t : has (s .group .dead) (placeAt s a .to) || has (rankAt s (placeAt s a .to) .marks) (placeAt s a .from) ≡ false) where
     pub ask-knows : rankAt (event anc s 2 a b .state) (placeAt s a .to) .marks ≡ union (rankAt s (placeAt s a .to) .marks) (below (placeAt s a .from))

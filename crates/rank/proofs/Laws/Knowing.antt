@@ -8,7 +8,7 @@ use Rattle.sets.specs.Sets.{has, add, union, below}
 use Rattle.sets.proofs.Laws.Bools.{passes-or-fails}
 use Rattle.sets.proofs.Laws.Members.{add-again}
 use Rattle.tree.specs.declared.Moved.{Moved}
-use Rattle.tree.specs.Tree.{moved, nobody}
+use Rattle.tree.specs.Tree.{fresh, moved, nobody}
 use Rattle.tree.specs.Calls.{movedBelow}
 use Rattle.tree.proofs.Laws.Mending.{moved-again}
 use Rattle.rank.specs.declared.Rank.{Rank}
@@ -76,6 +76,16 @@ module _ (anc : ℕ → ℕ) (n me : ℕ) where
         where
           v : Rank
           v = viewing anc n me (add (r .marks) q) r
+
+  -- ---- the row after news of deaths is the fresh table
+
+  pub ask-row : (q : ℕ) (r : Rank) → takingAsk anc n me q r .row ≡ fresh anc n (takingAsk anc n me q r .rank .marks)
+  unfolding takingAsk settling
+  ask-row q r = refl
+
+  pub notice-row : (q : ℕ) (r : Rank) → noticing anc n me q r .row ≡ fresh anc n (noticing anc n me q r .rank .marks)
+  unfolding noticing done settling
+  notice-row q r = ⊎-elim (λ (e : has (r .marks) q ≡ true). rw e) (λ (e : has (r .marks) q ≡ false). rw e) (passes-or-fails (has (r .marks) q))
 
   -- ---- moved
 

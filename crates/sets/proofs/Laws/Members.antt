@@ -296,6 +296,25 @@ add-again w p h = ext (add w p) w (λ k. same-test (has (add w p) k) (has w k) (
     was : (k : ℕ) → has (add w p) k ≡ true → has w k ≡ true
     was k t = ⊎-elim (λ (q : has w k ≡ true). q) (λ (q : eqb k p ≡ true). ap (has w) (eqb-true k p q) ∙ h) (or-cases (has w k) (eqb k p) (sym (has-add w p k) ∙ t))
 
+pub add-twice : (w p : ℕ) → add (add w p) p ≡ add w p
+add-twice w p = add-again (add w p) p (has-add-same w p)
+
+-- of two ranks that join a set it is the same which comes first
+pub add-swap : (w p q : ℕ) → add (add w p) q ≡ add (add w q) p
+add-swap w p q = ext (add (add w p) q) (add (add w q) p) (λ k. same k)
+  where
+    swap : (x y z : Bool) → x || y || z ≡ x || z || y
+    swap true y z = refl
+    swap false true true = refl
+    swap false true false = refl
+    swap false false true = refl
+    swap false false false = refl
+
+    same : (k : ℕ) → has (add (add w p) q) k ≡ has (add (add w q) p) k
+    same k =
+        has-add (add w p) q k ∙ ap (λ (x : Bool). x || eqb k q) (has-add w p k) ∙ swap (has w k) (eqb k p) (eqb k q)
+        ∙ sym (has-add (add w q) p k ∙ ap (λ (x : Bool). x || eqb k p) (has-add w q k))
+
 pub union-none : (w : ℕ) → union w 0 ≡ w
 union-none w = ext (union w 0) w (λ k. has-union w 0 k ∙ ap (λ (b : Bool). has w k || b) (has-zero k) ∙ or-false-r (has w k))
 

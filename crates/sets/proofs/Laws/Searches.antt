@@ -217,6 +217,14 @@ length-listed f (suc n) = length-append (listed f n) (cond (f n) (n ∷ []) []) 
     go true ih = ap (λ (x : ℕ). x + 1) ih ∙ add-one (count f n)
     go false ih = omega arith
 
+pub listed-zero : (f : ℕ → Bool) → listed f 0 ≡ []
+unfolding listed
+listed-zero f = refl
+
+pub listed-put : (f : ℕ → Bool) (n : ℕ) → f n ≡ true → listed f (suc n) ≡ listed f n ++ (n ∷ [])
+unfolding listed
+listed-put f n h = rw h
+
 pub listed-cong : (f g : ℕ → Bool) (n : ℕ) → ((k : ℕ) → k < n → f k ≡ g k) → listed f n ≡ listed g n
 unfolding listed
 listed-cong f g zero h = refl

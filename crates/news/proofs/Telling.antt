@@ -1,0 +1,143 @@
+-- News to a rank: a notice marks one rank, an ASK every rank below its sender, and nothing else an event does tells a rank of a death. Assumes
+-- nothing.
+use mathlib.Core.Path.{_≡_, refl, sym, ap, subst, _∙_}
+use mathlib.Core.Bool.{Bool, true, false, not, _&&_, _||_}
+use mathlib.Core.List.{List, [], _∷_, append-nil, foldl, foldl-append}
+use mathlib.Core.Logic.{⊎-elim}
+use Prim.Native.Nat.{ℕ, _≤_, _<_}
+use native.Mathlib.Omega.{arith}
+use lib.Dec.{eqb}
+use borrow.Author.Tests.{eq-eqb, ne-eqb, eqb-true, not-true}
+use Rattle.sets.specs.Sets.{has, add, union, below, listed}
+use Rattle.sets.proofs.Laws.Bools.{clash, passes-or-fails, passes, eq-or-ne, and-i, and-l, and-r, not-i}
+use Rattle.tree.specs.Tree.{fresh}
+use Rattle.rank.specs.declared.Rank.{Rank}
+use Rattle.rank.specs.declared.Acted.{Acted}
+use Rattle.rank.specs.Words.{ask}
+use Rattle.rank.proofs.Laws.Keeping.{fresh-marks}
+use Rattle.rank.proofs.Laws.Knowing.{ask-marks, ask-row, notice-marks, notice-row}
+use Rattle.state.specs.declared.State.{State}
+use Rattle.state.specs.States.{rankAt, placeAt}
+use Rattle.state.specs.Starting.{started}
+use Rattle.state.proofs.Laws.Starting.{started-fresh, fresh-rank-at}
+use Rattle.order.specs.Between.{InOrder}
+use Rattle.group.specs.Events.{event}
+use Rattle.group.specs.Reaching.{Reaches, begun, next}
+use Rattle.group.proofs.Laws.Moving.{others-stay, others-tell-nothing, notice-about, notice-knows, delivery-about, dropped-tells-nothing, ask-knows}
+use Rattle.group.proofs.Laws.Reached.{reached-small, reached-in-order}
+use Rattle.news.specs.News.{Shows, heldView, News, notice, asked, tellsOf, told, takes, takesAsk, brings, newsTo}
+use Rattle.news.proofs.Lists.{added-below, told-append}
+
+-- ---- the rules
+
+module _ (anc : ℕ → ℕ) (n me : ℕ) where
+  pub notice-shows : (x : Acted) (q : ℕ) → Shows anc n (add (x .rank .marks) q) (heldView (takes anc n me x (notice q)))
+  unfolding takes
+  notice-shows x q = (notice-marks anc n me q (x .rank), notice-row anc n me q (x .rank) ∙ ap (fresh anc n) (notice-marks anc n me q (x .rank)))
+
+  pub ask-shows : (q : ℕ) (x : Acted) → Shows anc n (union (x .rank .marks) (below q)) (heldView (takes anc n me x (asked q)))
+  unfolding takes
+  ask-shows q x = (ask-marks anc n me q (x .rank), ask-row anc n me q (x .rank) ∙ ap (fresh anc n) (ask-marks anc n me q (x .rank)))
+
+  -- a piece of news, and a list of them, add what they tell of
+  takes-shows : (x : Acted) (e : News) → Shows anc n (foldl add (x .rank .marks) (tellsOf e)) (heldView (takes anc n me x e))
+  unfolding tellsOf takes
+  takes-shows x (notice q) = notice-shows x q
+  takes-shows x (asked q) = subst (λ (w : ℕ). Shows anc n w (heldView (takes anc n me x (asked q)))) (sym (added-below (x .rank .marks) q)) (ask-shows q x)
+
+  pub news-shows : (l : List News) (x : Acted) → x .row ≡ fresh anc n (x .rank .marks) → Shows anc n (foldl add (x .rank .marks) (told l)) (heldView (foldl (takes anc n me) x l))
+  unfolding told
+  news-shows [] x e = (refl, e)
+  news-shows (b ∷ l) x e =
+      let s = takes-shows x b in
+      subst (λ (w : ℕ). Shows anc n w (heldView (foldl (takes anc n me) (takes anc n me x b) l)))
+      (ap (λ (w : ℕ). foldl add w (told l)) (s .0) ∙ sym (foldl-append add (x .rank .marks) (tellsOf b) (told l)))
+      (news-shows l (takes anc n me x b) (s .1 ∙ ap (fresh anc n) (sym (s .0))))
+
+-- ---- an accepted event
+
+module _ (anc : ℕ → ℕ) (s : State) (o : InOrder anc s) (i : ℕ) where
+  -- the marks of rank i after it
+  abbrev after : ℕ → ℕ → ℕ → ℕ
+  after kind a b = rankAt (event anc s kind a b .state) i .marks
+
+  abbrev Brings : ℕ → ℕ → ℕ → Type 0
+  Brings kind a b = after kind a b ≡ foldl add (rankAt s i .marks) (told (brings s kind a b i))
+
+  by-notice : (a b : ℕ) → event anc s 4 a b .answer ≡ 0 → Brings 4 a b
+  unfolding brings tellsOf told
+  by-notice a b z = ⊎-elim own other (eq-or-ne a i)
+    where
+      own : a ≡ i → Brings 4 a b
+      own e = rw (eq-eqb a i e) (subst (λ (j : ℕ). rankAt (event anc s 4 a b .state) j .marks ≡ add (rankAt s j .marks) b) e (notice-knows anc s o a b z))
+
+      other : (a ≡ i → ⊥) → Brings 4 a b
+      other d = rw (ne-eqb a i d) (ap (λ (r : Rank). r .marks) (others-stay anc s o 4 a b z i (λ e. d (sym (e ∙ notice-about anc s o a b z .0))) .0))
+
+  -- an ASK that is not taken, and any other message
+  untold : (a b : ℕ) → event anc s 2 a b .answer ≡ 0 → takesAsk s a i ≡ false → after 2 a b ≡ rankAt s i .marks
+  unfolding takesAsk
+  untold a b z t = ⊎-elim an-ask (λ (d : placeAt s a .kind ≡ ask → ⊥). others-tell-nothing anc s o 2 a b z (λ e. absurd (omega arith)) (λ e. d) i) (eq-or-ne (placeAt s a .kind) ask)
+    where
+      dropped : ℕ → Bool
+      dropped j = has (s .group .dead) j || has (rankAt s j .marks) (placeAt s a .from)
+
+      own : placeAt s a .kind ≡ ask → placeAt s a .to ≡ i → after 2 a b ≡ rankAt s i .marks
+      own k e =
+          dropped-tells-nothing anc s o a b z
+          (subst (λ (j : ℕ). dropped j ≡ true) (sym e)
+          (passes (dropped i) (λ f. clash (eqb (placeAt s a .kind) ask && eqb (placeAt s a .to) i && not (dropped i)) (and-i (eqb (placeAt s a .kind) ask && eqb (placeAt s a .to) i) (not (dropped i)) (and-i (eqb (placeAt s a .kind) ask) (eqb (placeAt s a .to) i) (eq-eqb (placeAt s a .kind) ask k) (eq-eqb (placeAt s a .to) i e)) (not-i (dropped i) f)) t)))
+          i
+
+      an-ask : placeAt s a .kind ≡ ask → after 2 a b ≡ rankAt s i .marks
+      an-ask k =
+          ⊎-elim (own k) (λ (d : placeAt s a .to ≡ i → ⊥). ap (λ (r : Rank). r .marks) (others-stay anc s o 2 a b z i (λ e. d (sym (e ∙ delivery-about anc s o a b z))) .0))
+          (eq-or-ne (placeAt s a .to) i)
+
+  asks-all-below : (a b : ℕ) → event anc s 2 a b .answer ≡ 0 → takesAsk s a i ≡ true → after 2 a b ≡ union (rankAt s i .marks) (below (placeAt s a .from))
+  unfolding takesAsk
+  asks-all-below a b z t =
+      let l = and-l (eqb (placeAt s a .kind) ask && eqb (placeAt s a .to) i) (not (has (s .group .dead) i || has (rankAt s i .marks) (placeAt s a .from))) t in
+      let r = not-true (has (s .group .dead) i || has (rankAt s i .marks) (placeAt s a .from)) (and-r (eqb (placeAt s a .kind) ask && eqb (placeAt s a .to) i) (not (has (s .group .dead) i || has (rankAt s i .marks) (placeAt s a .from))) t) in
+      let k : placeAt s a .kind ≡ ask = eqb-true (placeAt s a .kind) ask (and-l (eqb (placeAt s a .kind) ask) (eqb (placeAt s a .to) i) l) in
+      let e : placeAt s a .to ≡ i = eqb-true (placeAt s a .to) i (and-r (eqb (placeAt s a .kind) ask) (eqb (placeAt s a .to) i) l) in
+      subst (λ (j : ℕ). rankAt (event anc s 2 a b .state) j .marks ≡ union (rankAt s j .marks) (below (placeAt s a .from))) e
+      (ask-knows anc s o a b z k (subst (λ (j : ℕ). has (s .group .dead) j || has (rankAt s j .marks) (placeAt s a .from) ≡ false) (sym e) r))
+
+  by-delivery : (a b : ℕ) → event anc s 2 a b .answer ≡ 0 → Brings 2 a b
+  unfolding brings tellsOf told
+  by-delivery a b z =
+      ⊎-elim
+      (λ (t : takesAsk s a i ≡ true). rw t (asks-all-below a b z t ∙ sym (ap (foldl add (rankAt s i .marks)) (append-nil (listed (λ k. true) (placeAt s a .from))) ∙ added-below (rankAt s i .marks) (placeAt s a .from))))
+      (λ (t : takesAsk s a i ≡ false). rw t (untold a b z t))
+      (passes-or-fails (takesAsk s a i))
+
+  -- An accepted event adds to what a rank knows what it brings that rank.
+  pub event-brings : (kind a b : ℕ) → event anc s kind a b .answer ≡ 0 → Brings kind a b
+  unfolding brings tellsOf told
+  event-brings kind a b z = ⊎-elim told-so (λ (d : kind ≡ 4 → ⊥). ⊎-elim sent-so (neither d) (eq-or-ne kind 2)) (eq-or-ne kind 4)
+    where
+      told-so : kind ≡ 4 → Brings kind a b
+      told-so e = subst (λ (k : ℕ). event anc s k a b .answer ≡ 0 → Brings k a b) (sym e) (by-notice a b) z
+
+      sent-so : kind ≡ 2 → Brings kind a b
+      sent-so e = subst (λ (k : ℕ). event anc s k a b .answer ≡ 0 → Brings k a b) (sym e) (by-delivery a b) z
+
+      neither : (kind ≡ 4 → ⊥) → (kind ≡ 2 → ⊥) → Brings kind a b
+      neither d c = rw (ne-eqb kind 4 d, ne-eqb kind 2 c) (others-tell-nothing anc s o kind a b z d (λ e. absurd (c e)) i)
+
+-- ---- a run
+
+module _ (anc : ℕ → ℕ) (n i : ℕ) (l : i < n) where
+  knows-nothing : n ≤ 64 → started anc n .answer ≡ 0 → rankAt (started anc n .state) i .marks ≡ foldl add 0 (told [])
+  unfolding told
+  knows-nothing small z = ap (λ (t : State). rankAt t i .marks) (started-fresh anc n z .1) ∙ ap (λ (r : Rank). r .marks) (fresh-rank-at anc n i small l) ∙ fresh-marks anc n i
+
+  -- A rank knows what its news told it of, and nothing else.
+  pub knows-its-news : (s : State) (run : Reaches anc n s) → rankAt s i .marks ≡ foldl add 0 (told (newsTo anc n s run i))
+  unfolding newsTo
+  knows-its-news s (begun z) = knows-nothing (reached-small anc n (started anc n .state) (begun z) .1) z
+  knows-its-news s (next s′ kind a b run z) =
+      event-brings anc s′ (reached-in-order anc n s′ run) i kind a b z
+      ∙ ap (λ (w : ℕ). foldl add w (told (brings s′ kind a b i))) (knows-its-news s′ run)
+      ∙ sym (ap (foldl add 0) (told-append (newsTo anc n s′ run i) (brings s′ kind a b i)) ∙ foldl-append add 0 (told (newsTo anc n s′ run i)) (told (brings s′ kind a b i)))

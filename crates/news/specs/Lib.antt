@@ -1,0 +1,2 @@
+pub mod News
+pub mod Examples

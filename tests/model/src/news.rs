@@ -1,0 +1,153 @@
+//! Request 2026-06, the order of bad news. What it leaves: a schedule's end with every death told in two orders. What it
+//! changes: a search through all short schedules for two that differ in the order in which a rank is told of deaths alone,
+//! end with the same views, and move or send another number.
+
+use crate::group::{Event, Group};
+use crate::random::{owed_notices, Random};
+
+/// The group after these events, how many moved by them and how many messages were sent, if every one is accepted.
+fn play(group: &Group, events: &[Event]) -> Option<(Group, u32, u32)> {
+    let (mut group, mut moved, mut sent) = (group.clone(), 0, 0);
+    for e in events {
+        let answer = group.event(*e);
+        if answer.number != 0 {
+            return None;
+        }
+        moved += answer.moved.count;
+        sent += answer.sent;
+    }
+    Some((group, moved, sent))
+}
+
+/// A schedule's events with what is still to be told after them, in one order and in another, where that is accepted.
+pub struct Orders {
+    pub one: Vec<Event>,
+    pub other: Vec<Event>,
+    /// Whether another number moves, and another number of messages is sent.
+    pub moves: bool,
+    pub sends: bool,
+}
+
+fn shuffle(random: &mut Random, events: &mut [Event]) {
+    for k in (1..events.len()).rev() {
+        events.swap(k, random.below(k as u32 + 1) as usize);
+    }
+}
+
+/// The other order has some of the notices twice.
+pub fn two_orders(random: &mut Random, n: u32, events: &[Event]) -> Option<Orders> {
+    let mut group = Group::start(n);
+    for e in events {
+        group.event(*e);
+    }
+    let mut one: Vec<Event> = owed_notices(&group).iter().map(|(a, b)| Event { kind: 4, a: *a, b: *b }).collect();
+    shuffle(random, &mut one);
+    let mut other: Vec<Event> = one.iter().chain(one.iter().filter(|_| random.one_in(4))).copied().collect();
+    shuffle(random, &mut other);
+    let (a, b) = (play(&group, &one)?, play(&group, &other)?);
+    let after = |told: Vec<Event>| [events.to_vec(), told].concat();
+    Some(Orders { one: after(one), other: after(other), moves: a.1 != b.1, sends: a.2 != b.2 })
+}
+
+#[cfg(test)]
+mod tests {
+    use super::*;
+
+    /// Every event that could be accepted; all words are one, as no count hangs on them.
+    fn events(group: &Group) -> Vec<Event> {
+        let places = group.net.len() as u32;
+        let of = |kind, count: u32, b| (0..count).map(move |a| Event { kind, a, b });
+        let notices = (0..group.n).flat_map(|b| of(4, group.n, b));
+        of(1, group.n, 7).chain(of(2, places, 0)).chain(of(3, group.n, 0)).chain(notices).chain(of(5, places, 0)).collect()
+    }
+
+    /// The same schedule with the notices to each rank in every order, at their places.
+    fn orders(schedule: &[Event]) -> Vec<Vec<Event>> {
+        let places: Vec<usize> = (0..schedule.len()).filter(|k| schedule[*k].kind == 4).collect();
+        let mut found = vec![schedule.to_vec()];
+        for (done, place) in places.iter().enumerate() {
+            for order in found.clone() {
+                for other in places[done + 1..].iter().filter(|other| schedule[**other].a == schedule[*place].a) {
+                    let mut swapped = order.clone();
+                    swapped.swap(*place, *other);
+                    found.push(swapped);
+                }
+            }
+        }
+        found
+    }
+
+    /// Whether some accepted schedule of n ranks and that many events has another order that moves, and one that sends,
+    /// another number.
+    fn differs(n: u32, count: usize, schedule: &mut Vec<Event>) -> (bool, bool) {
+        let Some((group, moved, sent)) = play(&Group::start(n), schedule) else { return (false, false) };
+        let (mut moves, mut sends) = (false, false);
+        if schedule.len() == count {
+            for order in orders(schedule) {
+                if let Some((other, m, s)) = play(&Group::start(n), &order) {
+                    let same = group.ranks.iter().zip(&other.ranks).all(|(a, b)| a.marks == b.marks);
+                    moves |= same && m != moved;
+                    sends |= same && s != sent;
+                }
+            }
+            return (moves, sends);
+        }
+        for e in events(&group) {
+            schedule.push(e);
+            let found = differs(n, count, schedule);
+            (moves, sends) = (moves || found.0, sends || found.1);
+            schedule.pop();
+        }
+        (moves, sends)
+    }
+
+    #[test]
+    fn every_order() {
+        let notice = |a, b| Event { kind: 4, a, b };
+        let fixed = [Event { kind: 3, a: 1, b: 0 }, notice(4, 1)];
+        let found = orders(&[notice(0, 1), fixed[0], notice(0, 2), fixed[1], notice(0, 3)]);
+        let all: std::collections::BTreeSet<_> = found.iter().map(|o| [0, 2, 4].map(|k| o[k].b)).collect();
+        assert!(all.len() == 6 && found.iter().all(|o| [o[1], o[3]] == fixed));
+    }
+
+    /// Three ranks and four events for moved, three ranks and five events for messages: nothing smaller, and these do.
+    #[test]
+    fn the_smallest() {
+        let at = |n, count| differs(n, count, &mut Vec::new());
+        for count in 0..=6 {
+            for n in 1..=2 {
+                assert_eq!(at(n, count), (false, false), "{n} ranks, {count} events");
+            }
+        }
+        for n in 3..=5 {
+            for count in 0..=3 {
+                assert_eq!(at(n, count), (false, false), "{n} ranks, {count} events");
+            }
+            assert_eq!(at(n, 4), (true, false), "{n} ranks");
+        }
+        assert_eq!(at(3, 5), (true, true));
+    }
+
+    /// With 128 messages in flight the order decides what is accepted: rank 63, whose parent is 1 and which knows all deaths
+    /// but those of 0 and 1, has no room to report to 0, and needs none where it is told of 0 first.
+    #[test]
+    fn room_for_one_order() {
+        let mut group = Group::start(64);
+        let mut accepts = |kind, a, b| assert_eq!(group.event(Event { kind, a, b }).number, 0);
+        (32..64).for_each(|leaf| accepts(1, leaf, 7));
+        for level in [16, 8, 4] {
+            (level..2 * level).for_each(|r| accepts(3, r, 0));
+            (32..64).for_each(|leaf| (level..2 * level).for_each(|r| accepts(4, leaf, r)));
+        }
+        (0..4).for_each(|r| accepts(3, r, 0));
+        (32..63).for_each(|r| accepts(3, r, 0));
+        accepts(5, 0, 0);
+        (2..4).chain(32..63).for_each(|r| accepts(4, 63, r));
+        assert_eq!(group.net.len(), 128);
+        let tell = |orders: [u32; 2]| {
+            let mut told = group.clone();
+            orders.map(|b| told.event(Event { kind: 4, a: 63, b }).number)
+        };
+        assert_eq!((tell([1, 0]), tell([0, 1])), ([11, 0], [0, 0]));
+    }
+}
