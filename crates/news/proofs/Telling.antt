@@ -25,33 +25,33 @@ use Rattle.group.specs.Events.{event}
 use Rattle.group.specs.Reaching.{Reaches, begun, next}
 use Rattle.group.proofs.Laws.Moving.{others-stay, others-tell-nothing, notice-about, notice-knows, delivery-about, dropped-tells-nothing, ask-knows}
 use Rattle.group.proofs.Laws.Reached.{reached-small, reached-in-order}
-use Rattle.news.specs.News.{Shows, heldView, News, notice, asked, tellsOf, told, takes, takesAsk, brings, newsTo}
+use Rattle.news.specs.News.{Shows, inActed, News, byNotice, byAsk, tellsOf, allTold, takes, takesAsk, brings, newsTo}
 use Rattle.news.proofs.Lists.{added-below, told-append}
 
 -- ---- the rules
 
 module _ (anc : ℕ → ℕ) (n me : ℕ) where
-  pub notice-shows : (x : Acted) (q : ℕ) → Shows anc n (add (x .rank .marks) q) (heldView (takes anc n me x (notice q)))
+  pub notice-shows : (x : Acted) (q : ℕ) → Shows anc n (add (x .rank .marks) q) (inActed (takes anc n me x (byNotice q)))
   unfolding takes
   notice-shows x q = (notice-marks anc n me q (x .rank), notice-row anc n me q (x .rank) ∙ ap (fresh anc n) (notice-marks anc n me q (x .rank)))
 
-  pub ask-shows : (q : ℕ) (x : Acted) → Shows anc n (union (x .rank .marks) (below q)) (heldView (takes anc n me x (asked q)))
+  pub ask-shows : (q : ℕ) (x : Acted) → Shows anc n (union (x .rank .marks) (below q)) (inActed (takes anc n me x (byAsk q)))
   unfolding takes
   ask-shows q x = (ask-marks anc n me q (x .rank), ask-row anc n me q (x .rank) ∙ ap (fresh anc n) (ask-marks anc n me q (x .rank)))
 
   -- a piece of news, and a list of them, add what they tell of
-  takes-shows : (x : Acted) (e : News) → Shows anc n (foldl add (x .rank .marks) (tellsOf e)) (heldView (takes anc n me x e))
+  takes-shows : (x : Acted) (e : News) → Shows anc n (foldl add (x .rank .marks) (tellsOf e)) (inActed (takes anc n me x e))
   unfolding tellsOf takes
-  takes-shows x (notice q) = notice-shows x q
-  takes-shows x (asked q) = subst (λ (w : ℕ). Shows anc n w (heldView (takes anc n me x (asked q)))) (sym (added-below (x .rank .marks) q)) (ask-shows q x)
+  takes-shows x (byNotice q) = notice-shows x q
+  takes-shows x (byAsk q) = subst (λ (w : ℕ). Shows anc n w (inActed (takes anc n me x (byAsk q)))) (sym (added-below (x .rank .marks) q)) (ask-shows q x)
 
-  pub news-shows : (l : List News) (x : Acted) → x .row ≡ fresh anc n (x .rank .marks) → Shows anc n (foldl add (x .rank .marks) (told l)) (heldView (foldl (takes anc n me) x l))
-  unfolding told
+  pub news-shows : (l : List News) (x : Acted) → x .row ≡ fresh anc n (x .rank .marks) → Shows anc n (foldl add (x .rank .marks) (allTold l)) (inActed (foldl (takes anc n me) x l))
+  unfolding allTold
   news-shows [] x e = (refl, e)
   news-shows (b ∷ l) x e =
       let s = takes-shows x b in
-      subst (λ (w : ℕ). Shows anc n w (heldView (foldl (takes anc n me) (takes anc n me x b) l)))
-      (ap (λ (w : ℕ). foldl add w (told l)) (s .0) ∙ sym (foldl-append add (x .rank .marks) (tellsOf b) (told l)))
+      subst (λ (w : ℕ). Shows anc n w (inActed (foldl (takes anc n me) (takes anc n me x b) l)))
+      (ap (λ (w : ℕ). foldl add w (allTold l)) (s .0) ∙ sym (foldl-append add (x .rank .marks) (tellsOf b) (allTold l)))
       (news-shows l (takes anc n me x b) (s .1 ∙ ap (fresh anc n) (sym (s .0))))
 
 -- ---- an accepted event
@@ -62,10 +62,10 @@ module _ (anc : ℕ → ℕ) (s : State) (o : InOrder anc s) (i : ℕ) where
   after kind a b = rankAt (event anc s kind a b .state) i .marks
 
   abbrev Brings : ℕ → ℕ → ℕ → Type 0
-  Brings kind a b = after kind a b ≡ foldl add (rankAt s i .marks) (told (brings s kind a b i))
+  Brings kind a b = after kind a b ≡ foldl add (rankAt s i .marks) (allTold (brings s kind a b i))
 
   by-notice : (a b : ℕ) → event anc s 4 a b .answer ≡ 0 → Brings 4 a b
-  unfolding brings tellsOf told
+  unfolding brings tellsOf allTold
   by-notice a b z = ⊎-elim own other (eq-or-ne a i)
     where
       own : a ≡ i → Brings 4 a b
@@ -105,7 +105,7 @@ module _ (anc : ℕ → ℕ) (s : State) (o : InOrder anc s) (i : ℕ) where
       (ask-knows anc s o a b z k (subst (λ (j : ℕ). has (s .group .dead) j || has (rankAt s j .marks) (placeAt s a .from) ≡ false) (sym e) r))
 
   by-delivery : (a b : ℕ) → event anc s 2 a b .answer ≡ 0 → Brings 2 a b
-  unfolding brings tellsOf told
+  unfolding brings tellsOf allTold
   by-delivery a b z =
       ⊎-elim
       (λ (t : takesAsk s a i ≡ true). rw t (asks-all-below a b z t ∙ sym (ap (foldl add (rankAt s i .marks)) (append-nil (listed (λ k. true) (placeAt s a .from))) ∙ added-below (rankAt s i .marks) (placeAt s a .from))))
@@ -114,7 +114,7 @@ module _ (anc : ℕ → ℕ) (s : State) (o : InOrder anc s) (i : ℕ) where
 
   -- An accepted event adds to what a rank knows what it brings that rank.
   pub event-brings : (kind a b : ℕ) → event anc s kind a b .answer ≡ 0 → Brings kind a b
-  unfolding brings tellsOf told
+  unfolding brings tellsOf allTold
   event-brings kind a b z = ⊎-elim told-so (λ (d : kind ≡ 4 → ⊥). ⊎-elim sent-so (neither d) (eq-or-ne kind 2)) (eq-or-ne kind 4)
     where
       told-so : kind ≡ 4 → Brings kind a b
@@ -129,15 +129,15 @@ module _ (anc : ℕ → ℕ) (s : State) (o : InOrder anc s) (i : ℕ) where
 -- ---- a run
 
 module _ (anc : ℕ → ℕ) (n i : ℕ) (l : i < n) where
-  knows-nothing : n ≤ 64 → started anc n .answer ≡ 0 → rankAt (started anc n .state) i .marks ≡ foldl add 0 (told [])
-  unfolding told
+  knows-nothing : n ≤ 64 → started anc n .answer ≡ 0 → rankAt (started anc n .state) i .marks ≡ foldl add 0 (allTold [])
+  unfolding allTold
   knows-nothing small z = ap (λ (t : State). rankAt t i .marks) (started-fresh anc n z .1) ∙ ap (λ (r : Rank). r .marks) (fresh-rank-at anc n i small l) ∙ fresh-marks anc n i
 
   -- A rank knows what its news told it of, and nothing else.
-  pub knows-its-news : (s : State) (run : Reaches anc n s) → rankAt s i .marks ≡ foldl add 0 (told (newsTo anc n s run i))
+  pub knows-its-news : (s : State) (run : Reaches anc n s) → rankAt s i .marks ≡ foldl add 0 (allTold (newsTo anc n s run i))
   unfolding newsTo
   knows-its-news s (begun z) = knows-nothing (reached-small anc n (started anc n .state) (begun z) .1) z
   knows-its-news s (next s′ kind a b run z) =
       event-brings anc s′ (reached-in-order anc n s′ run) i kind a b z
-      ∙ ap (λ (w : ℕ). foldl add w (told (brings s′ kind a b i))) (knows-its-news s′ run)
-      ∙ sym (ap (foldl add 0) (told-append (newsTo anc n s′ run i) (brings s′ kind a b i)) ∙ foldl-append add 0 (told (newsTo anc n s′ run i)) (told (brings s′ kind a b i)))
+      ∙ ap (λ (w : ℕ). foldl add w (allTold (brings s′ kind a b i))) (knows-its-news s′ run)
+      ∙ sym (ap (foldl add 0) (told-append (newsTo anc n s′ run i) (brings s′ kind a b i)) ∙ foldl-append add 0 (allTold (newsTo anc n s′ run i)) (allTold (brings s′ kind a b i)))

@@ -1,7 +1,7 @@
--- Closed tests: what the order of bad news does change. Moved counts and messages may differ; for each the smallest example, as marks of a view and
--- as two schedules that end with the same views. The schedules are those of examples/.
+-- Closed tests: what the order of bad news does change, and the words of the claims on small cases. Moved counts and messages may differ: for each
+-- the smallest two schedules that end with the same views, as in examples/, and for moved the smallest two marks.
 use Prim.Native.Nat.{ℕ, _+_, _*_, _^_}
-use mathlib.Core.Bool.{Bool, _&&_, _||_}
+use mathlib.Core.Bool.{Bool, not, _&&_, _||_}
 use mathlib.Core.List.{List, [], _∷_}
 use lib.Dec.{eqb}
 use lib.ListN.{getD, replicate}
@@ -10,20 +10,22 @@ use Rattle.tree.specs.Tree.{flat}
 use Rattle.tree.specs.Calls.{same, mended}
 use Rattle.state.specs.declared.State.{State}
 use Rattle.state.specs.States.{rankAt, rowAt}
+use Rattle.group.specs.Events.{event}
 use Rattle.files.specs.Cases.{file}
 use Rattle.schedule.specs.Runs.{Run, run}
 use Rattle.schedule.specs.Samples.{then}
+use Rattle.news.specs.News.{isIn, byNotice, byAsk, allTold, brings}
 
 -- ---- moved, in a view
 
--- How many move by the mark of a and then that of b.
+-- How many move by the mark of a and then that of b, and whether as many do by b and then a.
 unfoldable pub movedBy : ℕ → ℕ → ℕ → ℕ → ℕ
 movedBy n marks a b = mended flat n marks a .moved .count + mended flat n (mended flat n marks a .marks) b .moved .count
 
--- In a view of n ranks as many move by a and then b as by b and then a, for any two ranks; for any two that one unmarked rank is told of.
 unfoldable pub asMany : ℕ → ℕ → ℕ → ℕ → Bool
 asMany n marks a b = eqb (movedBy n marks a b) (movedBy n marks b a)
 
+-- As many do in every view of n ranks: for any two ranks; and for any two others than one that is unmarked.
 unfoldable pub forAnyTwo : ℕ → Bool
 forAnyTwo n = every (λ marks. every (λ a. every (asMany n marks a) n) n) (2 ^ n)
 
@@ -32,14 +34,14 @@ forAnyTwoTold n = every (λ marks. every (λ me. has marks me || every (λ a. ev
 
 -- ---- schedules
 
--- rank 0 is told of the death of 1, a rank with a reporter, and then of 2, its reporter; and the other way round
+-- rank 0 is told of the death of 1, its child, and then of that of 2, the child of 1; and the other way round
 unfoldable pub innerFirst : List ℕ
 innerFirst = file 3 (then 3 1 0 (then 3 2 0 (then 4 0 1 (then 4 0 2 []))))
 
 unfoldable pub leafFirst : List ℕ
 leafFirst = file 3 (then 3 1 0 (then 3 2 0 (then 4 0 2 (then 4 0 1 []))))
 
--- rank 2, which has reported to 1, is told of the death of 1 and then of 0; and the other way round
+-- rank 2, which has reported to 1, its parent, is told of the death of 1 and then of that of 0; and the other way round
 unfoldable pub parentFirst : List ℕ
 parentFirst = file 3 (then 1 2 7 (then 3 0 0 (then 3 1 0 (then 4 2 1 (then 4 2 0 [])))))
 
@@ -50,23 +52,36 @@ rootFirst = file 3 (then 1 2 7 (then 3 0 0 (then 3 1 0 (then 4 2 0 (then 4 2 1 [
 unfoldable pub outsider : ℕ → ℕ → ℕ → List ℕ
 outsider me a b = file 3 (then 3 a 0 (then 3 b 0 (then 4 me a (then 4 me b []))))
 
--- The run of a schedule of up to five events; its answer, sent and moved at each.
-unfoldable pub through : List ℕ → Run
-through f = run flat f (replicate 15 0)
+-- rank 2 has reported to 1, and 1 to 0, which dies; 1 is told of it and asks 2: the report to 0 is at place 0, the ASK at place 1
+unfoldable pub asking : List ℕ
+asking = file 3 (then 1 2 7 (then 1 1 6 (then 2 0 0 (then 3 0 0 (then 4 1 0 [])))))
 
-unfoldable pub answers : List ℕ → List ℕ → Bool
-answers f wanted = eqb (through f .answer) 0 && same (through f .answers) wanted
+-- The run of a schedule of up to five events, and what it writes: answer, sent and moved for each.
+unfoldable pub wholeRun : List ℕ → Run
+wholeRun f = run flat f (replicate 15 0)
+
+unfoldable pub writes : List ℕ → List ℕ → Bool
+writes f wanted = eqb (wholeRun f .answer) 0 && same (wholeRun f .answers) wanted
 
 -- Every rank of three ends with the same marks and the same table.
 unfoldable pub sameView : State → State → ℕ → Bool
 sameView s t i = eqb (rankAt s i .marks) (rankAt t i .marks) && same (rowAt s i) (rowAt t i)
 
 unfoldable pub endAlike : List ℕ → List ℕ → Bool
-endAlike f g = every (sameView (through f .state) (through g .state)) 3
+endAlike f g = every (sameView (wholeRun f .state) (wholeRun g .state)) 3
 
 -- Four events, each of them accepted, and nothing is sent.
 unfoldable pub saysNothing : List ℕ → Bool
-saysNothing f = every (λ k. eqb (getD (through f .answers) (3 * k) 1) 0 && eqb (getD (through f .answers) (3 * k + 1) 1) 0) 4
+saysNothing f = every (λ k. eqb (getD (wholeRun f .answers) (3 * k) 1) 0 && eqb (getD (wholeRun f .answers) (3 * k + 1) 1) 0) 4
+
+-- ---- the words of the claims
+
+-- The ranks that an event tells rank i of: once 1 has asked; and once 1 has died besides and 2 has been told of it.
+unfoldable pub tellsNow : ℕ → ℕ → ℕ → ℕ → List ℕ → Bool
+tellsNow kind a b i wanted = same (allTold (brings (wholeRun asking .state) kind a b i)) wanted
+
+unfoldable pub tellsLate : ℕ → ℕ → ℕ → ℕ → List ℕ → Bool
+tellsLate kind a b i wanted = same (allTold (brings (event flat (event flat (wholeRun asking .state) 3 1 0 .state) 4 2 1 .state) kind a b i)) wanted
 
 unfoldable pub examples : List Bool
 examples =
@@ -77,13 +92,25 @@ examples =
     ∷ eqb (movedBy 3 0 2 1) 0
     ∷ every forAnyTwoTold 3
     -- the same as schedules: one rank moves, or none
-    ∷ answers innerFirst (0 ∷ 0 ∷ 0 ∷ 0 ∷ 0 ∷ 0 ∷ 0 ∷ 0 ∷ 1 ∷ 0 ∷ 0 ∷ 0 ∷ 0 ∷ 0 ∷ 0 ∷ [])
-    ∷ answers leafFirst (0 ∷ 0 ∷ 0 ∷ 0 ∷ 0 ∷ 0 ∷ 0 ∷ 0 ∷ 0 ∷ 0 ∷ 0 ∷ 0 ∷ 0 ∷ 0 ∷ 0 ∷ [])
+    ∷ writes innerFirst (0 ∷ 0 ∷ 0 ∷ 0 ∷ 0 ∷ 0 ∷ 0 ∷ 0 ∷ 1 ∷ 0 ∷ 0 ∷ 0 ∷ 0 ∷ 0 ∷ 0 ∷ [])
+    ∷ writes leafFirst (0 ∷ 0 ∷ 0 ∷ 0 ∷ 0 ∷ 0 ∷ 0 ∷ 0 ∷ 0 ∷ 0 ∷ 0 ∷ 0 ∷ 0 ∷ 0 ∷ 0 ∷ [])
     ∷ endAlike innerFirst leafFirst
     -- messages: rank 2 reports once more, to 0, or does not
-    ∷ answers parentFirst (0 ∷ 1 ∷ 0 ∷ 0 ∷ 0 ∷ 0 ∷ 0 ∷ 0 ∷ 0 ∷ 0 ∷ 1 ∷ 1 ∷ 0 ∷ 0 ∷ 1 ∷ [])
-    ∷ answers rootFirst (0 ∷ 1 ∷ 0 ∷ 0 ∷ 0 ∷ 0 ∷ 0 ∷ 0 ∷ 0 ∷ 0 ∷ 0 ∷ 1 ∷ 0 ∷ 0 ∷ 1 ∷ [])
+    ∷ writes parentFirst (0 ∷ 1 ∷ 0 ∷ 0 ∷ 0 ∷ 0 ∷ 0 ∷ 0 ∷ 0 ∷ 0 ∷ 1 ∷ 1 ∷ 0 ∷ 0 ∷ 1 ∷ [])
+    ∷ writes rootFirst (0 ∷ 1 ∷ 0 ∷ 0 ∷ 0 ∷ 0 ∷ 0 ∷ 0 ∷ 0 ∷ 0 ∷ 0 ∷ 1 ∷ 0 ∷ 0 ∷ 1 ∷ [])
     ∷ endAlike parentFirst rootFirst
     -- two crashes and two notices alone send nothing in a group of three
     ∷ every (λ me. every (λ a. every (λ b. eqb me a || eqb me b || eqb a b || saysNothing (outsider me a b)) 3) 3) 3
+    -- a list, its members in any order and twice; what news tells of
+    ∷ isIn 1 (3 ∷ 1 ∷ 1 ∷ [])
+    ∷ not (isIn 2 (3 ∷ 1 ∷ 1 ∷ []))
+    ∷ same (allTold (byNotice 3 ∷ byAsk 2 ∷ [])) (3 ∷ 0 ∷ 1 ∷ [])
+    -- a notice tells its rank; the ASK from 1 tells 2 of 0, and nobody else, and the report tells nobody
+    ∷ tellsNow 4 2 0 2 (0 ∷ [])
+    ∷ tellsNow 4 2 0 1 []
+    ∷ tellsNow 2 1 0 2 (0 ∷ [])
+    ∷ tellsNow 2 1 0 1 []
+    ∷ tellsNow 2 0 0 0 []
+    -- once 2 has marked 1, the ASK is dropped
+    ∷ tellsLate 2 1 0 2 []
     ∷ []

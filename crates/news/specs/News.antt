@@ -1,5 +1,5 @@
--- Request 2026-06: the order of bad news. The words of the claims, and the claims: the deaths that are known decide the marks and the table, and
--- neither the order in which they were told nor how often. Over any ancestor sets.
+-- Request 2026-06: the order of bad news. The words of the claims, and the claims: which deaths are known decides the marks and the table; the order
+-- in which they were told, and how often, does not. Over any ancestor sets.
 use Prim.Native.Nat.{ℕ, _≤_, _<_}
 use mathlib.Core.Path.{_≡_}
 use mathlib.Core.Bool.{Bool, true, false, cond, not, _&&_, _||_}
@@ -20,32 +20,30 @@ use Rattle.state.specs.States.{rankAt, rowAt, placeAt}
 use Rattle.group.specs.Reaching.{Reaches, begun, next}
 use Rattle.agreement.specs.Progress.{Lives}
 
--- ---- views
+-- ---- views and lists
 
--- A view and its table.
-pub record View : Type 0 where
+-- A view and its table, as a caller or a rank holds them.
+pub record Held : Type 0 where
   pub marks : ℕ
   pub table : List ℕ
 
 -- The same marks and the same table.
-abbrev pub Same : View → View → Type 0
+abbrev pub Same : Held → Held → Type 0
 Same v w = (v .marks ≡ w .marks) × (v .table ≡ w .table)
 
 -- These marks, and the table that is fresh for them.
-abbrev pub Shows : (ℕ → ℕ) → ℕ → ℕ → View → Type 0
+abbrev pub Shows : (ℕ → ℕ) → ℕ → ℕ → Held → Type 0
 Shows anc n marks v = (v .marks ≡ marks) × (v .table ≡ fresh anc n marks)
 
--- The set lies within a group of n ranks.
+-- The members of the set are ranks of the group.
 abbrev pub Inside : ℕ → ℕ → Type 0
 Inside n set = (k : ℕ) → has set k ≡ true → k < n
 
--- A view of a group of 1 to 64 ranks, with its table.
-pub record ViewInOrder (anc : ℕ → ℕ) (n : ℕ) (v : View) : Type 0 where
+-- The group is of 1 to 64 ranks, the marks are of ranks of it, the table is the fresh one.
+pub record HeldInOrder (anc : ℕ → ℕ) (n : ℕ) (v : Held) : Type 0 where
   pub size : (0 < n) × (n ≤ 64)
   pub inside : Inside n (v .marks)
   pub table-is : v .table ≡ fresh anc n (v .marks)
-
--- ---- lists
 
 -- Rank k is in the list.
 unfoldable pub isIn : ℕ → List ℕ → Bool
@@ -58,31 +56,31 @@ MembersAre l set = (k : ℕ) → isIn k l ≡ has set k
 
 -- ---- marking in any order
 
--- `mark` is a way to mark one rank, and `view` the view in what it leaves. `foldl mark x l` marks the ranks of l one after another, from x on.
-pub record InAnyOrder (anc : ℕ → ℕ) (n : ℕ) {A : Type 0} (mark : A → ℕ → A) (view : A → View) : Type 0 where
+-- `step` marks one rank in a thing that holds a view and its table. `foldl step x l` marks the ranks of l one after another, from x on.
+pub record InAnyOrder (anc : ℕ → ℕ) (n : ℕ) {A : Type 0} (step : A → ℕ → A) (held : A → Held) : Type 0 where
   -- Marking a then b gives the same marks and the same table as b then a.
-  pub swapped : (x : A) (a b : ℕ) → Same (view (mark (mark x a) b)) (view (mark (mark x b) a))
+  pub swapped : (x : A) (a b : ℕ) → Same (held (step (step x a) b)) (held (step (step x b) a))
   -- Marking twice equals once.
-  pub again : (x : A) (q : ℕ) → Same (view (mark (mark x q) q)) (view (mark x q))
+  pub again : (x : A) (q : ℕ) → Same (held (step (step x q) q)) (held (step x q))
   -- Marking a set is the marking of its members in any order.
-  pub members : (x : A) → ViewInOrder anc n (view x) → (set : ℕ) → Inside n set → (l : List ℕ) → MembersAre l set → Shows anc n (union (view x .marks) set) (view (foldl mark x l))
+  pub together : (x : A) → HeldInOrder anc n (held x) → (set : ℕ) → Inside n set → (l : List ℕ) → MembersAre l set → Shows anc n (union (held x .marks) set) (held (foldl step x l))
 
 -- By the definition of mending.
-abbrev pub mendedView : Mended → View
-mendedView x = record { marks = x .marks; table = x .table }
+abbrev pub inMended : Mended → Held
+inMended x = record { marks = x .marks; table = x .table }
 
 abbrev pub MendingInAnyOrder : (ℕ → ℕ) → Type 0
-MendingInAnyOrder anc = (n : ℕ) → InAnyOrder anc n (λ x q. mended anc n (x .marks) q) mendedView
+MendingInAnyOrder anc = (n : ℕ) → InAnyOrder anc n (λ x q. mended anc n (x .marks) q) inMended
 
--- By calls of `mark`, each on the view and the table that the one before handed back; refused ones too.
+-- By calls of `mark`, each on the view and the table that the one before handed back, accepted or not.
 abbrev pub calls : (ℕ → ℕ) → ℕ → Marked → ℕ → Marked
 calls anc n x q = marked anc n (x .marks) (x .table) q
 
-abbrev pub markedView : Marked → View
-markedView x = record { marks = x .marks; table = x .table }
+abbrev pub inMarked : Marked → Held
+inMarked x = record { marks = x .marks; table = x .table }
 
 abbrev pub CallsInAnyOrder : (ℕ → ℕ) → Type 0
-CallsInAnyOrder anc = (n : ℕ) → InAnyOrder anc n (calls anc n) markedView
+CallsInAnyOrder anc = (n : ℕ) → InAnyOrder anc n (calls anc n) inMarked
 
 -- Two calls that are accepted in one order are accepted in the other.
 abbrev pub AcceptedInAnyOrder : (ℕ → ℕ) → Type 0
@@ -91,45 +89,41 @@ AcceptedInAnyOrder anc = (n : ℕ) (x : Marked) (a b : ℕ) → calls anc n x a 
 
 -- ---- news to a rank
 
--- News of deaths: a notice tells of one, an ASK of every rank below its sender, ascending.
+-- News of deaths comes by a notice of one, or by an ASK, which tells of every rank below its sender.
 pub data News : Type 0 where
-  notice : ℕ → News
-  asked : ℕ → News
+  byNotice : ℕ → News
+  byAsk : ℕ → News
 
 unfoldable pub tellsOf : News → List ℕ
-tellsOf (notice q) = q ∷ []
-tellsOf (asked q) = listed (λ k. true) q
+tellsOf (byNotice q) = q ∷ []
+tellsOf (byAsk q) = listed (λ k. true) q
 
-unfoldable pub told : List News → List ℕ
-told [] = []
-told (e ∷ l) = tellsOf e ++ told l
+unfoldable pub allTold : List News → List ℕ
+allTold [] = []
+allTold (e ∷ l) = tellsOf e ++ allTold l
 
--- What it makes of the rank me, and the view that is left: that of the rank's record and row.
+-- The rank me, after what its last rule left of it, takes a piece of news; what it holds is in its record and its row.
 unfoldable pub takes : (ℕ → ℕ) → ℕ → ℕ → Acted → News → Acted
-takes anc n me x (notice q) = noticing anc n me q (x .rank)
-takes anc n me x (asked q) = takingAsk anc n me q (x .rank)
+takes anc n me x (byNotice q) = noticing anc n me q (x .rank)
+takes anc n me x (byAsk q) = takingAsk anc n me q (x .rank)
 
-abbrev pub heldView : Acted → View
-heldView x = record { marks = x .rank .marks; table = x .row }
+abbrev pub inActed : Acted → Held
+inActed x = record { marks = x .rank .marks; table = x .row }
 
 -- By notices.
 abbrev pub NoticesInAnyOrder : (ℕ → ℕ) → Type 0
-NoticesInAnyOrder anc = (n me : ℕ) → InAnyOrder anc n (λ x q. takes anc n me x (notice q)) heldView
-
--- By any news, notices and ASKs mixed: the marking of all ranks that it tells of.
-abbrev pub NewsInAnyOrder : (ℕ → ℕ) → Type 0
-NewsInAnyOrder anc = (n me : ℕ) (x : Acted) → x .row ≡ fresh anc n (x .rank .marks) → (news : List News) (set : ℕ) → MembersAre (told news) set
-    → Shows anc n (union (x .rank .marks) set) (heldView (foldl (takes anc n me) x news))
+NoticesInAnyOrder anc = (n me : ℕ) → InAnyOrder anc n (λ x q. takes anc n me x (byNotice q)) inActed
 
 -- By an ASK from q: the marking of all below q.
 abbrev pub AskMarksAllBelow : (ℕ → ℕ) → Type 0
-AskMarksAllBelow anc = (n me q : ℕ) (x : Acted) → Shows anc n (union (x .rank .marks) (below q)) (heldView (takes anc n me x (asked q)))
+AskMarksAllBelow anc = (n me q : ℕ) (x : Acted) → Shows anc n (union (x .rank .marks) (below q)) (inActed (takes anc n me x (byAsk q)))
+
+-- By notices and ASKs mixed: the marking of all that they tell of.
+abbrev pub NewsInAnyOrder : (ℕ → ℕ) → Type 0
+NewsInAnyOrder anc = (n me : ℕ) (x : Acted) → x .row ≡ fresh anc n (x .rank .marks) → (news : List News) (set : ℕ) → MembersAre (allTold news) set
+    → Shows anc n (union (x .rank .marks) set) (inActed (foldl (takes anc n me) x news))
 
 -- ---- in a run of a group
-
--- The view that rank i holds.
-abbrev pub viewAt : State → ℕ → View
-viewAt s i = record { marks = rankAt s i .marks; table = rowAt s i }
 
 -- The message at place a is an ASK to rank i that its delivery has i take: i lives, and has not marked the sender.
 unfoldable pub takesAsk : State → ℕ → ℕ → Bool
@@ -139,8 +133,8 @@ takesAsk s a i =
 -- The news that an event brings rank i.
 unfoldable pub brings : State → ℕ → ℕ → ℕ → ℕ → List News
 brings s kind a b i =
-    cond (eqb kind notices && eqb a i) (notice b ∷ [])
-    (cond (eqb kind delivers && takesAsk s a i) (asked (placeAt s a .from) ∷ [])
+    cond (eqb kind notices && eqb a i) (byNotice b ∷ [])
+    (cond (eqb kind delivers && takesAsk s a i) (byAsk (placeAt s a .from) ∷ [])
     [])
 
 -- All news that a run brought it, in the order in which it came.
@@ -148,9 +142,10 @@ unfoldable pub newsTo : (anc : ℕ → ℕ) (n : ℕ) (s : State) → Reaches an
 newsTo anc n s (begun z) i = []
 newsTo anc n s (next s′ kind a b run z) i = newsTo anc n s′ run i ++ brings s′ kind a b i
 
--- What a rank holds in a reached state is the marking of all ranks that the run's news told it of, whatever came between.
+-- In a reached state a rank has marked those that the run's news told it of, whatever came between, and its table is the fresh one.
 abbrev pub RunsInAnyOrder : (ℕ → ℕ) → Type 0
-RunsInAnyOrder anc = (n : ℕ) (s : State) (run : Reaches anc n s) (i : ℕ) → i < n → (set : ℕ) → MembersAre (told (newsTo anc n s run i)) set → Shows anc n set (viewAt s i)
+RunsInAnyOrder anc = (n : ℕ) (s : State) (run : Reaches anc n s) (i : ℕ) → i < n
+    → MembersAre (allTold (newsTo anc n s run i)) (rankAt s i .marks) × (rowAt s i ≡ fresh anc n (rankAt s i .marks))
 
 -- Two living ranks of a reached state that know the same deaths have the same table.
 abbrev pub SameDeathsSameTable : (ℕ → ℕ) → Type 0

@@ -68,6 +68,7 @@ pub fn listing(bytes: &[u8]) -> String {
 mod tests {
     use super::*;
     use crate::events::written;
+    use crate::pictures::views;
 
     #[test]
     fn document_01() {
@@ -101,9 +102,12 @@ mod tests {
     /// Request 2026-06: other listings, and the same views in the end.
     #[test]
     fn orders() {
-        for (one, other) in [("inner_first", "leaf_first"), ("parent_first", "root_first")] {
-            assert_ne!(example(&format!("{one}.listing")), example(&format!("{other}.listing")));
-            assert_eq!(example(&format!("{one}.views")), example(&format!("{other}.views")));
+        for names in [["inner_first", "leaf_first"], ["parent_first", "root_first"]] {
+            let files = names.map(|name| std::fs::read(format!("{EXAMPLES}/{name}.agr")).expect("a schedule"));
+            assert_ne!(listing(&files[0]), listing(&files[1]));
+            let shown = files.map(|file| views(&file));
+            assert_eq!(shown[0], shown[1]);
+            assert_eq!(shown, names.map(|name| example(&format!("{name}.views"))));
         }
     }
 

@@ -1,4 +1,4 @@
-//! A second opinion on schedules, marks, climbs and pictures, written from document 01 and requests 2026-01, 2026-03 and 2026-04 alone.
+//! A second opinion on schedules, marks, climbs and pictures, written from document 01 and requests 2026-01, 2026-03, 2026-04 and 2026-06 alone.
 //!
 //!     model listing < FILE                     the listing that FILE must have
 //!     model write [EVENTS] > FILE              the schedule that a text describes (events.rs)
@@ -12,8 +12,7 @@
 //!     model compare-events PROGRAM SEED COUNT  who moved by each event of random schedules, the program beside the model
 //!     model pictures-of < FILE                 the pictures that must be printed of FILE
 //!     model compare-pictures-of PROGRAM SEED COUNT  the same beside the program's, of random schedules
-//!     model compare-orders PROGRAM SEED COUNT  the pictures that the program prints of random schedules, once with every death told in one
-//!                                              order after them and once in another
+//!     model compare-orders PROGRAM SEED COUNT  the same of random schedules with every death told after them in one order and in another
 //!     model pictures SEED COUNT DIR            COUNT random views to write and texts to read as DIR/stdin, what must answer them as DIR/stdout
 //!     model compare-pictures PROGRAM SEED COUNT  the program's answers to such beside the model's
 //!

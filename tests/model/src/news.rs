@@ -19,7 +19,7 @@ fn play(group: &Group, events: &[Event]) -> Option<(Group, u32, u32)> {
     Some((group, moved, sent))
 }
 
-/// A schedule's events with what is still to be told after them, in one order and in another, where that is accepted.
+/// A schedule's events, and after them every death that a living rank has still to be told of, in one order and in another.
 pub struct Orders {
     pub one: Vec<Event>,
     pub other: Vec<Event>,
@@ -34,7 +34,7 @@ fn shuffle(random: &mut Random, events: &mut [Event]) {
     }
 }
 
-/// The other order has some of the notices twice.
+/// Two orders, the other with some of the notices twice; None where there is but one, or a notice is refused.
 pub fn two_orders(random: &mut Random, n: u32, events: &[Event]) -> Option<Orders> {
     let mut group = Group::start(n);
     for e in events {
@@ -44,6 +44,9 @@ pub fn two_orders(random: &mut Random, n: u32, events: &[Event]) -> Option<Order
     shuffle(random, &mut one);
     let mut other: Vec<Event> = one.iter().chain(one.iter().filter(|_| random.one_in(4))).copied().collect();
     shuffle(random, &mut other);
+    if one.len() < 2 || one == other {
+        return None;
+    }
     let (a, b) = (play(&group, &one)?, play(&group, &other)?);
     let after = |told: Vec<Event>| [events.to_vec(), told].concat();
     Some(Orders { one: after(one), other: after(other), moves: a.1 != b.1, sends: a.2 != b.2 })
@@ -53,7 +56,7 @@ pub fn two_orders(random: &mut Random, n: u32, events: &[Event]) -> Option<Order
 mod tests {
     use super::*;
 
-    /// Every event that could be accepted; all words are one, as no count hangs on them.
+    /// Every event that could be accepted; all enter with the same word, as no count hangs on it.
     fn events(group: &Group) -> Vec<Event> {
         let places = group.net.len() as u32;
         let of = |kind, count: u32, b| (0..count).map(move |a| Event { kind, a, b });
@@ -61,7 +64,7 @@ mod tests {
         of(1, group.n, 7).chain(of(2, places, 0)).chain(of(3, group.n, 0)).chain(notices).chain(of(5, places, 0)).collect()
     }
 
-    /// The same schedule with the notices to each rank in every order, at their places.
+    /// The same schedule with the notices to each rank in every order, at their places. ASKs tell of deaths too, but not so soon (below).
     fn orders(schedule: &[Event]) -> Vec<Vec<Event>> {
         let places: Vec<usize> = (0..schedule.len()).filter(|k| schedule[*k].kind == 4).collect();
         let mut found = vec![schedule.to_vec()];
@@ -126,6 +129,32 @@ mod tests {
             assert_eq!(at(n, 4), (true, false), "{n} ranks");
         }
         assert_eq!(at(3, 5), (true, true));
+    }
+
+    /// Whether a rank learns of a death by a delivery, an ASK's, in an accepted schedule of n ranks and that many events.
+    fn asks_tell(group: &Group, count: usize) -> bool {
+        count > 0 && events(group).into_iter().any(|e| {
+            let mut after = group.clone();
+            let told = |g: &Group| g.ranks.iter().map(|r| r.marks.len()).sum::<usize>();
+            after.event(e).number == 0 && (e.kind == 2 && told(&after) > told(group) || asks_tell(&after, count - 1))
+        })
+    }
+
+    #[test]
+    fn no_ask_tells_before_six_events() {
+        assert!((1..=4).all(|n| !asks_tell(&Group::start(n), 5)));
+        assert!(asks_tell(&Group::start(3), 6));
+    }
+
+    /// Who of two ranks is told first: each has one piece of news, and rank 2 enters before or after its own.
+    #[test]
+    fn told_before_or_after_entering() {
+        let sent = |first, second| {
+            let notice = |a| Event { kind: 4, a, b: 1 };
+            let events = [Event { kind: 3, a: 1, b: 0 }, notice(first), Event { kind: 1, a: 2, b: 7 }, notice(second)];
+            play(&Group::start(3), &events).expect("accepted").2
+        };
+        assert_eq!((sent(2, 0), sent(0, 2)), (1, 2));
     }
 
     /// With 128 messages in flight the order decides what is accepted: rank 63, whose parent is 1 and which knows all deaths

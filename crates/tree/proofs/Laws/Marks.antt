@@ -25,9 +25,9 @@ pub record Markable (anc : ℕ → ℕ) (n marks : ℕ) (table : List ℕ) (q : 
   pub rank-in : q < n
 
 module _ (anc : ℕ → ℕ) (n marks : ℕ) (table : List ℕ) (q : ℕ) where
-  -- an accepted mark
-  abbrev pub done : Marked
-  done = record { answer = accepted; marks = add marks q; table = fresh anc n (add marks q); moved = moved anc n marks q }
+  -- what an accepted mark answers
+  abbrev pub acceptedMark : Marked
+  acceptedMark = record { answer = accepted; marks = add marks q; table = fresh anc n (add marks q); moved = moved anc n marks q }
 
   found : wrongSize n ≡ false → wrongView anc n marks table ≡ false → ltb q n ≡ true → Markable anc n marks table q
   unfolding wrongView
@@ -44,31 +44,31 @@ module _ (anc : ℕ → ℕ) (n marks : ℕ) (table : List ℕ) (q : ℕ) where
 
   -- A mark is a refusal with a number, or the marking of a rank of the group in a view with its table.
   pub marked-by : (P : Marked → Type 0) → ((number : ℕ) → (number ≡ 0 → ⊥) → P (markRefused number marks table))
-      → (Markable anc n marks table q → P done) → P (marked anc n marks table q)
+      → (Markable anc n marks table q → P acceptedMark) → P (marked anc n marks table q)
   unfolding marked
   marked-by P refuses accepts = size (wrongSize n) refl
     where
       rank : wrongSize n ≡ false → wrongView anc n marks table ≡ false → (b : Bool) → ltb q n ≡ b
-          → P (cond (not b) (markRefused badRank marks table) done)
+          → P (cond (not b) (markRefused badRank marks table) acceptedMark)
       rank s v true e = accepts (found s v e)
       rank s v false e = refuses badRank (λ x. omega arith)
 
       view : wrongSize n ≡ false → (b : Bool) → wrongView anc n marks table ≡ b
-          → P (cond b (markRefused notInOrder marks table) (cond (not (ltb q n)) (markRefused badRank marks table) done))
+          → P (cond b (markRefused notInOrder marks table) (cond (not (ltb q n)) (markRefused badRank marks table) acceptedMark))
       view s true e = refuses notInOrder (λ x. omega arith)
       view s false e = rank s e (ltb q n) refl
 
       size : (b : Bool) → wrongSize n ≡ b
           → P (cond b (markRefused badSize marks table)
           (cond (wrongView anc n marks table) (markRefused notInOrder marks table)
-          (cond (not (ltb q n)) (markRefused badRank marks table) done)))
+          (cond (not (ltb q n)) (markRefused badRank marks table) acceptedMark)))
       size true e = refuses badSize (λ x. omega arith)
       size false e = view e (wrongView anc n marks table) refl
 
-  -- It is accepted exactly where it can be.
-  pub markable-done : Markable anc n marks table q → marked anc n marks table q ≡ done
+  -- It is accepted exactly where all of this holds.
+  pub markable-accepted : Markable anc n marks table q → marked anc n marks table q ≡ acceptedMark
   unfolding marked wrongView
-  markable-done m =
+  markable-accepted m =
       let z : eqb (minus marks (below n)) 0 ≡ true =
       eq-eqb (minus marks (below n)) 0 (none-in (minus marks (below n)) (λ k h. clash (has (below n) k) (has-below-lt n k (m .inside k (minus-l marks (below n) k h))) (minus-r marks (below n) k h))) in
       let t : same table (fresh anc n marks) ≡ true = ap (same table) (sym (m .table-is)) ∙ same-refl table in
