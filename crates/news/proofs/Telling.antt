@@ -74,35 +74,46 @@ module _ (anc : ℕ → ℕ) (s : State) (o : InOrder anc s) (i : ℕ) where
       other : (a ≡ i → ⊥) → Brings 4 a b
       other d = rw (ne-eqb a i d) (ap (λ (r : Rank). r .marks) (others-stay anc s o 4 a b z i (λ e. d (sym (e ∙ notice-about anc s o a b z .0))) .0))
 
+  -- the message at place a would be dropped at rank j
+  abbrev drops : ℕ → ℕ → Bool
+  drops a j = has (s .group .dead) j || has (rankAt s j .marks) (placeAt s a .from)
+
+  -- what the test of an ASK says where it passes, and where it fails
+  ask-taken : (a : ℕ) → takesAsk s a i ≡ true → (placeAt s a .kind ≡ ask) × (placeAt s a .to ≡ i) × (drops a i ≡ false)
+  unfolding takesAsk
+  ask-taken a t =
+      let k = eqb (placeAt s a .kind) ask in
+      let e = eqb (placeAt s a .to) i in
+      let l = and-l (k && e) (not (drops a i)) t in
+      (eqb-true (placeAt s a .kind) ask (and-l k e l), eqb-true (placeAt s a .to) i (and-r k e l), not-true (drops a i) (and-r (k && e) (not (drops a i)) t))
+
+  ask-dropped : (a : ℕ) → takesAsk s a i ≡ false → placeAt s a .kind ≡ ask → placeAt s a .to ≡ i → drops a i ≡ true
+  unfolding takesAsk
+  ask-dropped a t k e =
+      passes (drops a i) (λ f. clash (takesAsk s a i)
+      (and-i (eqb (placeAt s a .kind) ask && eqb (placeAt s a .to) i) (not (drops a i))
+      (and-i (eqb (placeAt s a .kind) ask) (eqb (placeAt s a .to) i) (eq-eqb (placeAt s a .kind) ask k) (eq-eqb (placeAt s a .to) i e))
+      (not-i (drops a i) f)) t)
+
   -- an ASK that is not taken, and any other message
   untold : (a b : ℕ) → event anc s 2 a b .answer ≡ 0 → takesAsk s a i ≡ false → after 2 a b ≡ rankAt s i .marks
-  unfolding takesAsk
   untold a b z t = ⊎-elim an-ask (λ (d : placeAt s a .kind ≡ ask → ⊥). others-tell-nothing anc s o 2 a b z (λ e. absurd (omega arith)) (λ e. d) i) (eq-or-ne (placeAt s a .kind) ask)
     where
-      dropped : ℕ → Bool
-      dropped j = has (s .group .dead) j || has (rankAt s j .marks) (placeAt s a .from)
-
       own : placeAt s a .kind ≡ ask → placeAt s a .to ≡ i → after 2 a b ≡ rankAt s i .marks
-      own k e =
-          dropped-tells-nothing anc s o a b z
-          (subst (λ (j : ℕ). dropped j ≡ true) (sym e)
-          (passes (dropped i) (λ f. clash (eqb (placeAt s a .kind) ask && eqb (placeAt s a .to) i && not (dropped i)) (and-i (eqb (placeAt s a .kind) ask && eqb (placeAt s a .to) i) (not (dropped i)) (and-i (eqb (placeAt s a .kind) ask) (eqb (placeAt s a .to) i) (eq-eqb (placeAt s a .kind) ask k) (eq-eqb (placeAt s a .to) i e)) (not-i (dropped i) f)) t)))
-          i
+      own k e = dropped-tells-nothing anc s o a b z (subst (λ (j : ℕ). drops a j ≡ true) (sym e) (ask-dropped a t k e)) i
+
+      other : (placeAt s a .to ≡ i → ⊥) → after 2 a b ≡ rankAt s i .marks
+      other d = ap (λ (r : Rank). r .marks) (others-stay anc s o 2 a b z i (λ e. d (sym (e ∙ delivery-about anc s o a b z))) .0)
 
       an-ask : placeAt s a .kind ≡ ask → after 2 a b ≡ rankAt s i .marks
-      an-ask k =
-          ⊎-elim (own k) (λ (d : placeAt s a .to ≡ i → ⊥). ap (λ (r : Rank). r .marks) (others-stay anc s o 2 a b z i (λ e. d (sym (e ∙ delivery-about anc s o a b z))) .0))
-          (eq-or-ne (placeAt s a .to) i)
+      an-ask k = ⊎-elim (own k) other (eq-or-ne (placeAt s a .to) i)
 
+  -- an ASK that is
   asks-all-below : (a b : ℕ) → event anc s 2 a b .answer ≡ 0 → takesAsk s a i ≡ true → after 2 a b ≡ union (rankAt s i .marks) (below (placeAt s a .from))
-  unfolding takesAsk
   asks-all-below a b z t =
-      let l = and-l (eqb (placeAt s a .kind) ask && eqb (placeAt s a .to) i) (not (has (s .group .dead) i || has (rankAt s i .marks) (placeAt s a .from))) t in
-      let r = not-true (has (s .group .dead) i || has (rankAt s i .marks) (placeAt s a .from)) (and-r (eqb (placeAt s a .kind) ask && eqb (placeAt s a .to) i) (not (has (s .group .dead) i || has (rankAt s i .marks) (placeAt s a .from))) t) in
-      let k : placeAt s a .kind ≡ ask = eqb-true (placeAt s a .kind) ask (and-l (eqb (placeAt s a .kind) ask) (eqb (placeAt s a .to) i) l) in
-      let e : placeAt s a .to ≡ i = eqb-true (placeAt s a .to) i (and-r (eqb (placeAt s a .kind) ask) (eqb (placeAt s a .to) i) l) in
-      subst (λ (j : ℕ). rankAt (event anc s 2 a b .state) j .marks ≡ union (rankAt s j .marks) (below (placeAt s a .from))) e
-      (ask-knows anc s o a b z k (subst (λ (j : ℕ). has (s .group .dead) j || has (rankAt s j .marks) (placeAt s a .from) ≡ false) (sym e) r))
+      let k = ask-taken a t in
+      subst (λ (j : ℕ). rankAt (event anc s 2 a b .state) j .marks ≡ union (rankAt s j .marks) (below (placeAt s a .from))) (k .1)
+      (ask-knows anc s o a b z (k .0) (subst (λ (j : ℕ). drops a j ≡ false) (sym (k .1)) (k .2)))
 
   by-delivery : (a b : ℕ) → event anc s 2 a b .answer ≡ 0 → Brings 2 a b
   unfolding brings tellsOf allTold
