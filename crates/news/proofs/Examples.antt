@@ -1,7 +1,6 @@
--- Each example is what it says, by computation; and a run with its news. Assumes nothing.
+-- Each example is what it says, by computation. Assumes nothing.
 use mathlib.Core.Path.{_≡_, refl}
 use mathlib.Core.Bool.{true}
-use mathlib.Core.List.{[], _∷_}
 use Rattle.sets.specs.Sets.{has, only, union, meet, minus, add, below, setOf, count, largest, smallest, listed, every, all}
 use Rattle.tree.specs.Calls.{mended, andThen, movedBelow, wrongSize, same}
 use Rattle.tree.specs.Tree.{lineage, ancestors, half, flat, parent, children, row, entry, fresh, moves, sized, moved}
@@ -15,19 +14,13 @@ use Rattle.state.specs.Starting.{firstRank, firstRow, freshState, started}
 use Rattle.order.specs.Order.{proper, clauses, rankInOrder, isWithin, memberInOrder, zeroRecord, strangerInOrder, seatInOrder, seatInOrderAt, messageInOrder, zeroPlace, placeInOrder, placeInOrderAt, inOrder}
 use Rattle.plans.specs.Plans.{subject, refusing, accepting, afterwards, fitting, delivered, acting, planned}
 use Rattle.group.specs.Events.{posted, applied, refused, carried, subjectOf, planOf, stepped, event}
-use Rattle.group.specs.Reaching.{Reaches, begun, next}
 use Rattle.files.specs.Files.{byteAt, shortAt, numberAt, eventAt, eventsIn, wrongMark, wrongVersion, broken, header, numberOf}
 use Rattle.schedule.specs.Runs.{written, stepAt, played, refusedRun, acceptedRun, opened, run}
 use Rattle.files.specs.Cases.{file}
 use Rattle.schedule.specs.Samples.{then}
-use Rattle.news.specs.News.{isIn, byNotice, tellsOf, allTold, takesAsk, brings, newsTo}
+use Rattle.news.specs.News.{isIn, tellsOf, allTold, takesAsk, brings}
 use Rattle.news.specs.Examples.{movedBy, asMany, forAnyTwo, forAnyTwoTold, innerFirst, leafFirst, parentFirst, rootFirst, outsider, asking, wholeRun, writes, sameView, endAlike, saysNothing, tellsNow, tellsLate, examples}
 
 pub examples-hold : all examples ≡ true
 unfolding has only union meet minus add below setOf count largest smallest listed every all mended andThen movedBelow wrongSize same lineage ancestors half flat parent children row entry fresh moves sized moved proper clauses rankInOrder becoming combining concluding owing parentOf childrenOf awaiting freshRank hearing viewing inPhase saying deciding settled done settling entering noting raised takingUp lowered takingDown asked takingAsk renewing regathering orphaned inheriting bereaved noticing silent reports tells asks letter letters combine subject refusing accepting afterwards fitting delivered acting planned posted joining applied refused carried subjectOf planOf stepped padded without isWithin memberInOrder zeroRecord strangerInOrder seatInOrder seatInOrderAt messageInOrder zeroPlace placeInOrder placeInOrderAt inOrder event namesRank namesPlace wrongKind wrongRank noMessage isDead notOutside isLiving isLast bothLive lateRefusal refusal firstRank firstRow freshState started byteAt shortAt numberAt eventAt eventsIn wrongMark wrongVersion broken header numberOf written stepAt played refusedRun acceptedRun opened run then file movedBy asMany forAnyTwo forAnyTwoTold innerFirst leafFirst parentFirst rootFirst outsider asking wholeRun writes sameView endAlike saysNothing tellsNow tellsLate isIn tellsOf allTold takesAsk brings examples
 examples-hold = refl
-
--- A run and its news: rank 1 of three crashes, and rank 0 is told of it.
-pub a-run-and-its-news : (r : Reaches flat 3 (event flat (event flat (started flat 3 .state) 3 1 0 .state) 4 0 1 .state)) × (newsTo flat 3 (event flat (event flat (started flat 3 .state) 3 1 0 .state) 4 0 1 .state) r 0 ≡ byNotice 1 ∷ [])
-unfolding has only union meet minus add below setOf count largest smallest listed every all andThen movedBelow wrongSize same lineage ancestors half flat parent children row entry fresh moves sized moved proper clauses rankInOrder becoming combining concluding owing parentOf childrenOf awaiting freshRank hearing viewing inPhase saying deciding settled done settling entering noting raised takingUp lowered takingDown asked takingAsk renewing regathering orphaned inheriting bereaved noticing silent reports tells asks letter letters combine subject refusing accepting afterwards fitting delivered acting planned posted joining applied refused carried subjectOf planOf stepped padded without isWithin memberInOrder zeroRecord strangerInOrder seatInOrder seatInOrderAt messageInOrder zeroPlace placeInOrder placeInOrderAt inOrder event namesRank namesPlace wrongKind wrongRank noMessage isDead notOutside isLiving isLast bothLive lateRefusal refusal firstRank firstRow freshState started takesAsk brings newsTo
-a-run-and-its-news = (next (event flat (started flat 3 .state) 3 1 0 .state) 4 0 1 (next (started flat 3 .state) 3 1 0 (begun refl) refl) refl, refl)

@@ -1,11 +1,11 @@
 -- The ranks of a list join a set one after another: the set that comes of it is a matter of the list's members. Assumes nothing.
 use mathlib.Core.Path.{_≡_, refl, sym, ap, _∙_}
-use mathlib.Core.Bool.{Bool, true, false, _||_}
+use mathlib.Core.Bool.{Bool, true, _||_}
 use mathlib.Core.List.{List, [], _∷_, _++_, append-assoc, foldl, foldl-append}
 use Prim.Native.Nat.{ℕ, zero, suc}
 use lib.Dec.{eqb}
 use Rattle.sets.specs.Sets.{has, add, union, below, listed}
-use Rattle.sets.proofs.Laws.Bools.{or-false-r}
+use Rattle.sets.proofs.Laws.Bools.{or-assoc, or-false-r}
 use Rattle.sets.proofs.Laws.Members.{ext, has-zero, has-add, has-union, union-below-suc, union-below-zero}
 use Rattle.sets.proofs.Laws.Searches.{listed-zero, listed-put}
 use Rattle.news.specs.News.{isIn, MembersAre, News, tellsOf, allTold}
@@ -14,11 +14,7 @@ use Rattle.news.specs.News.{isIn, MembersAre, News, tellsOf, allTold}
 has-added : (l : List ℕ) (w k : ℕ) → has (foldl add w l) k ≡ has w k || isIn k l
 unfolding isIn
 has-added [] w k = sym (or-false-r (has w k))
-has-added (q ∷ l) w k = has-added l (add w q) k ∙ ap (λ (b : Bool). b || isIn k l) (has-add w q k) ∙ assoc (has w k) (eqb k q) (isIn k l)
-  where
-    assoc : (x y z : Bool) → x || y || z ≡ x || (y || z)
-    assoc true y z = refl
-    assoc false y z = refl
+has-added (q ∷ l) w k = has-added l (add w q) k ∙ ap (λ (b : Bool). b || isIn k l) (has-add w q k) ∙ or-assoc (has w k) (eqb k q) (isIn k l)
 
 -- a list whose members are a set adds that set
 pub added-set : (w set : ℕ) (l : List ℕ) → MembersAre l set → foldl add w l ≡ union w set

@@ -113,4 +113,7 @@ examples =
     ∷ tellsNow 2 0 0 0 []
     -- once 2 has marked 1, the ASK is dropped
     ∷ tellsLate 2 1 0 2 []
+    -- 1 knows of a death that 2 does not, both live, and their tables differ
+    ∷ not (has (wholeRun asking .state .group .dead) 1 || has (wholeRun asking .state .group .dead) 2)
+    ∷ not (same (rowAt (wholeRun asking .state) 1) (rowAt (wholeRun asking .state) 2))
     ∷ []

@@ -8,7 +8,7 @@ use Rattle.sets.specs.Sets.{has, add, count}
 use Rattle.tree.specs.Tree.{sized, nobody, endedAt}
 use Rattle.tree.specs.Calls.{markRefused, marked}
 use Rattle.tree.proofs.Laws.Mending.{empty-sized, moved-again, moved-size, moved-who}
-use Rattle.tree.proofs.Laws.Marks.{marked-by, refused-back}
+use Rattle.tree.proofs.Laws.Marks.{marked-by}
 
 module _ (anc : ℕ → ℕ) (n marks : ℕ) (table : List ℕ) (q : ℕ) where
   -- moved is the size of the set, accepted or not.
@@ -31,4 +31,5 @@ module _ (anc : ℕ → ℕ) (n marks : ℕ) (table : List ℕ) (q : ℕ) where
 
   -- A refused mark hands back view and table, and nobody has moved.
   pub a-refused-mark-changes-nothing : (marked anc n marks table q .answer ≡ 0 → ⊥) → marked anc n marks table q ≡ markRefused (marked anc n marks table q .answer) marks table
-  a-refused-mark-changes-nothing = refused-back anc n marks table q
+  unfolding markRefused
+  a-refused-mark-changes-nothing = marked-by anc n marks table q (λ r. (r .answer ≡ 0 → ⊥) → r ≡ markRefused (r .answer) marks table) (λ number d e. refl) (λ f e. absurd (e refl))

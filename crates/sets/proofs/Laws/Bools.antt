@@ -94,6 +94,17 @@ pub or-neither : (a b : Bool) → a || b ≡ false → (a ≡ false) × (b ≡ f
 or-neither true b h = absurd (true≢false h)
 or-neither false b h = (refl, h)
 
+pub or-assoc : (a b c : Bool) → a || b || c ≡ a || (b || c)
+or-assoc true b c = refl
+or-assoc false b c = refl
+
+pub or-swap : (a b c : Bool) → a || b || c ≡ a || c || b
+or-swap true b c = refl
+or-swap false true true = refl
+or-swap false true false = refl
+or-swap false false true = refl
+or-swap false false false = refl
+
 pub or-false-r : (a : Bool) → a || false ≡ a
 or-false-r true = refl
 or-false-r false = refl

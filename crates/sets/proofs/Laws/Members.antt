@@ -13,7 +13,7 @@ use lib.Pow.{pow-pos, pow-mono, pow-lt, pow-add, shr-shr, shl-exact}
 use lib.Bits.{bitAnd, bitOr, bitXor, and-shr, or-shr, xor-shr, and-mod, or-mod, xor-mod, or-lt, or-shifted-r, and-mask, xor-add-and}
 use borrow.Author.Tests.{not-true, eq-eqb, ne-eqb, eqb-true, lt-ltb, le-ltb, ltb-true}
 use Rattle.sets.specs.Sets.{has, only, union, meet, minus, add, below, setOf}
-use Rattle.sets.proofs.Laws.Bools.{and-true, same-test, and-i, and-l, and-r, or-l, or-r, or-cases, clash, fails, passes, not-i, lt-or-le, eq-or-ne, or-false-r, cond-true, and-not-l, and-assoc}
+use Rattle.sets.proofs.Laws.Bools.{and-true, same-test, and-i, and-l, and-r, or-l, or-r, or-cases, or-assoc, or-swap, clash, fails, passes, not-i, lt-or-le, eq-or-ne, or-false-r, cond-true, and-not-l, and-assoc}
 
 -- ---- digits
 
@@ -303,16 +303,9 @@ add-twice w p = add-again (add w p) p (has-add-same w p)
 pub add-swap : (w p q : ℕ) → add (add w p) q ≡ add (add w q) p
 add-swap w p q = ext (add (add w p) q) (add (add w q) p) (λ k. same k)
   where
-    swap : (x y z : Bool) → x || y || z ≡ x || z || y
-    swap true y z = refl
-    swap false true true = refl
-    swap false true false = refl
-    swap false false true = refl
-    swap false false false = refl
-
     same : (k : ℕ) → has (add (add w p) q) k ≡ has (add (add w q) p) k
     same k =
-        has-add (add w p) q k ∙ ap (λ (x : Bool). x || eqb k q) (has-add w p k) ∙ swap (has w k) (eqb k p) (eqb k q)
+        has-add (add w p) q k ∙ ap (λ (x : Bool). x || eqb k q) (has-add w p k) ∙ or-swap (has w k) (eqb k p) (eqb k q)
         ∙ sym (has-add (add w q) p k ∙ ap (λ (x : Bool). x || eqb k p) (has-add w q k))
 
 pub union-none : (w : ℕ) → union w 0 ≡ w
@@ -325,16 +318,9 @@ none-union w = ext (union 0 w) w (λ k. has-union 0 w k ∙ ap (λ (b : Bool). b
 pub add-across : (a b p : ℕ) → union (add a p) b ≡ union a (add b p)
 add-across a b p = ext (union (add a p) b) (union a (add b p)) (λ k. same k)
   where
-    swap : (x y z : Bool) → x || y || z ≡ x || (z || y)
-    swap true y z = refl
-    swap false true true = refl
-    swap false true false = refl
-    swap false false true = refl
-    swap false false false = refl
-
     same : (k : ℕ) → has (union (add a p) b) k ≡ has (union a (add b p)) k
     same k =
-        has-union (add a p) b k ∙ ap (λ (x : Bool). x || has b k) (has-add a p k) ∙ swap (has a k) (eqb k p) (has b k)
+        has-union (add a p) b k ∙ ap (λ (x : Bool). x || has b k) (has-add a p k) ∙ or-swap (has a k) (eqb k p) (has b k) ∙ or-assoc (has a k) (has b k) (eqb k p)
         ∙ sym (has-union a (add b p) k ∙ ap (λ (x : Bool). has a k || x) (has-add b p k))
 
 -- a set of ranks below n, cut to those, is itself
@@ -348,13 +334,9 @@ union-below-suc w k = ext (add (union w (below k)) k) (union w (below (suc k))) 
     same : (j : ℕ) → has (add (union w (below k)) k) j ≡ has (union w (below (suc k))) j
     same j =
         has-add (union w (below k)) k j ∙ ap (λ (b : Bool). b || eqb j k) (has-union w (below k) j)
-        ∙ assoc (has w j) (has (below k) j) (eqb j k)
+        ∙ or-assoc (has w j) (has (below k) j) (eqb j k)
         ∙ ap (λ (b : Bool). has w j || b) (sym (has-add (below k) k j) ∙ ap (λ (x : ℕ). has x j) (sym (below-suc k)))
         ∙ sym (has-union w (below (suc k)) j)
-      where
-        assoc : (a b c : Bool) → a || b || c ≡ a || (b || c)
-        assoc true b c = refl
-        assoc false b c = refl
 
 pub union-below-zero : (w : ℕ) → union w (below 0) ≡ w
 unfolding below

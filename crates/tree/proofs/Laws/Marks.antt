@@ -78,11 +78,7 @@ module _ (anc : ℕ → ℕ) (n marks : ℕ) (table : List ℕ) (q : ℕ) where
   unfolding markRefused
   accepted-markable = marked-by (λ r. r .answer ≡ 0 → Markable anc n marks table q) (λ number d e. absurd (d e)) (λ m e. m)
 
-  -- A refused one hands back what it was given.
-  pub refused-back : (marked anc n marks table q .answer ≡ 0 → ⊥) → marked anc n marks table q ≡ markRefused (marked anc n marks table q .answer) marks table
-  unfolding markRefused
-  refused-back = marked-by (λ r. (r .answer ≡ 0 → ⊥) → r ≡ markRefused (r .answer) marks table) (λ number d e. refl) (λ f e. absurd (e refl))
-
+  -- A refused one hands back view and table.
   pub refused-keeps : (marked anc n marks table q .answer ≡ 0 → ⊥) → (marked anc n marks table q .marks ≡ marks) × (marked anc n marks table q .table ≡ table)
   unfolding markRefused
   refused-keeps = marked-by (λ r. (r .answer ≡ 0 → ⊥) → (r .marks ≡ marks) × (r .table ≡ table)) (λ number d e. (refl, refl)) (λ f e. absurd (e refl))
