@@ -11,6 +11,7 @@ use Rattle.rank.specs.declared.Rank.{Rank}
 use Rattle.rank.specs.Words.{outside, allBits}
 use Rattle.rank.specs.Records.{freshRank}
 use Rattle.rank.proofs.Laws.Keeping.{fresh-outside, fresh-heard, fresh-owed, fresh-word}
+use Rattle.events.specs.declared.Event.{Event}
 use Rattle.state.specs.declared.State.{State}
 use Rattle.state.specs.States.{rankAt}
 use Rattle.state.specs.Starting.{freshState, started}
@@ -50,13 +51,13 @@ module _ (anc : ℕ → ℕ) (n : ℕ) (small : n ≤ 64) where
 pub reached-truthful : (anc : ℕ → ℕ) (n : ℕ) (s : State) → Reaches anc n s → Truthful n s
 reached-truthful anc n s run i k l h = known-deaths-are-deaths anc n s run i l k h
 
-pub reached-moves : (anc : ℕ → ℕ) → Ancestry anc → (n : ℕ) (s : State) (kind a b : ℕ) → Reaches anc n s → event anc s kind a b .answer ≡ 0 → Move anc n (Entry kind a b) s (event anc s kind a b .state)
-reached-moves anc tree n s kind a b run z = subst (λ (m : ℕ). Move anc m (Entry kind a b) s (event anc s kind a b .state)) (reached-size anc n s run) (event-moves anc tree s kind a b (reached-in-order anc n s run) z)
+pub reached-moves : (anc : ℕ → ℕ) → Ancestry anc → (n : ℕ) (s : State) (ev : Event) → Reaches anc n s → event anc s ev .answer ≡ 0 → Move anc n (Entry ev) s (event anc s ev .state)
+reached-moves anc tree n s ev run z = subst (λ (m : ℕ). Move anc m (Entry ev) s (event anc s ev .state)) (reached-size anc n s run) (event-moves anc tree s ev (reached-in-order anc n s run) z)
 
 -- What holds of a fresh group and is kept by every move holds in every reached state.
 pub every-reached : (anc : ℕ → ℕ) → Ancestry anc → (n : ℕ) (I : State → Type 0) → (n ≤ 64 → I (freshState anc n)) → ((E : ℕ → ℕ → Type 0) (s s′ : State) → n ≤ 64 → Truthful n s′ → I s → Move anc n E s s′ → I s′)
     → (s : State) → Reaches anc n s → I s
 every-reached anc tree n I first keep s (begun z) = subst I (sym (started-fresh anc n z .1)) (first (reached-small anc n (started anc n .state) (begun z) .1))
-every-reached anc tree n I first keep s (next s′ kind a b run z) =
-    keep (Entry kind a b) s′ (event anc s′ kind a b .state) (reached-small anc n s′ run .1) (reached-truthful anc n (event anc s′ kind a b .state) (next s′ kind a b run z))
-    (every-reached anc tree n I first keep s′ run) (reached-moves anc tree n s′ kind a b run z)
+every-reached anc tree n I first keep s (next s′ ev run z) =
+    keep (Entry ev) s′ (event anc s′ ev .state) (reached-small anc n s′ run .1) (reached-truthful anc n (event anc s′ ev .state) (next s′ ev run z))
+    (every-reached anc tree n I first keep s′ run) (reached-moves anc tree n s′ ev run z)

@@ -22,7 +22,8 @@ use Rattle.rank.specs.Rules.{inPhase, saying, deciding, settled, done, settling
 use Rattle.rank.specs.Sends.{silent, reports, tells, asks, letter, letters}
 use Rattle.rank.specs.Words.{combine, outside, decided}
 use Rattle.net.specs.Net.{joining, padded, without}
-use Rattle.refusals.specs.Refusing.{namesRank, namesPlace, wrongKind, wrongRank, noMessage, isDead, notOutside, isLiving, isLast, bothLive, lateRefusal, refusal}
+use Rattle.events.specs.Events.{eventOf, namesRank, namesPlace}
+use Rattle.refusals.specs.Refusing.{wrongKind, wrongRank, noMessage, isDead, notOutside, isLiving, isLast, bothLive, lateRefusal, refusal}
 use Rattle.state.specs.Starting.{firstRank, firstRow, freshState, started}
 use Rattle.state.specs.States.{rankAt}
 use Rattle.state.specs.declared.State.{State}
@@ -30,9 +31,10 @@ use Rattle.order.specs.Order.{proper, clauses, rankInOrder, isWithin, memberInO
 use Rattle.plans.specs.Plans.{subject, refusing, accepting, afterwards, fitting, delivered, acting, planned}
 use Rattle.group.specs.Events.{posted, applied, refused, carried, subjectOf, planOf, stepped, event}
 use Rattle.group.specs.Reaching.{Reaches, begun, next}
+use Rattle.playing.specs.Playing.{written, told, played}
 use Rattle.files.specs.Files.{byteAt, shortAt, numberAt, eventAt, eventsIn, wrongMark, wrongVersion, broken, header, numberOf}
-use Rattle.schedule.specs.Runs.{written, stepAt, played, refusedRun, acceptedRun, opened, run}
 use Rattle.files.specs.Cases.{file}
+use Rattle.schedule.specs.Runs.{refusedRun, opened, run}
 use Rattle.schedule.specs.Samples.{then, three}
 use Rattle.schedule.proofs.Reaching.{run-reaches}
 use Rattle.agreement.specs.Progress.{Lives, Quiet, AllEntered, AllDeathsKnown, AllDecided}
@@ -40,7 +42,7 @@ use Rattle.agreement.specs.Agreement.{isEntry, hasEntered, wordOf}
 use Rattle.agreement.specs.Witnesses.{mourned, absent, busy, untold, bereft, slice, runs, ended, isQuiet, allEntered, allDeathsKnown, allDecided, shown, LivesWith, DiedWith, witnesses}
 
 pub the-tests-pass : all witnesses ≡ true
-unfolding has only union meet minus add below setOf count largest smallest listed every all andThen movedBelow wrongSize same lineage ancestors half flat parent children row entry fresh moves sized moved proper clauses rankInOrder becoming combining concluding owing parentOf childrenOf awaiting freshRank hearing viewing inPhase saying deciding settled done settling entering noting raised takingUp lowered takingDown asked takingAsk renewing regathering orphaned inheriting bereaved noticing silent reports tells asks letter letters combine subject refusing accepting afterwards fitting delivered acting planned posted joining applied refused carried subjectOf planOf stepped padded without isWithin memberInOrder zeroRecord strangerInOrder seatInOrder seatInOrderAt messageInOrder zeroPlace placeInOrder placeInOrderAt inOrder event namesRank namesPlace wrongKind wrongRank noMessage isDead notOutside isLiving isLast bothLive lateRefusal refusal firstRank firstRow freshState started byteAt shortAt numberAt eventAt eventsIn wrongMark wrongVersion broken header numberOf written stepAt played refusedRun acceptedRun opened run then file three mourned absent busy untold bereft slice runs ended isQuiet allEntered allDeathsKnown allDecided shown witnesses
+unfolding has only union meet minus add below setOf count largest smallest listed every all andThen movedBelow wrongSize same lineage ancestors half flat parent children row entry fresh moves sized moved proper clauses rankInOrder becoming combining concluding owing parentOf childrenOf awaiting freshRank hearing viewing inPhase saying deciding settled done settling entering noting raised takingUp lowered takingDown asked takingAsk renewing regathering orphaned inheriting bereaved noticing silent reports tells asks letter letters combine subject refusing accepting afterwards fitting delivered acting planned posted joining applied refused carried subjectOf planOf stepped padded without isWithin memberInOrder zeroRecord strangerInOrder seatInOrder seatInOrderAt messageInOrder zeroPlace placeInOrder placeInOrderAt inOrder event namesRank namesPlace wrongKind wrongRank noMessage isDead notOutside isLiving isLast bothLive lateRefusal refusal firstRank firstRow freshState started byteAt shortAt numberAt eventAt eventsIn wrongMark wrongVersion broken header numberOf written told played refusedRun opened run then file three mourned absent busy untold bereft slice runs ended isQuiet allEntered allDeathsKnown allDecided shown witnesses
 the-tests-pass = refl
 
 -- ---- from the tests to the words
@@ -130,7 +132,7 @@ Tests =
     × (same (shown (ended bereft) 2) (1 ∷ 3 ∷ 14 ∷ []) ≡ true)
     × (same (shown (ended bereft) 3) (1 ∷ 3 ∷ 14 ∷ []) ≡ true)
     × (eqb (started flat 1 .answer) 0 ≡ true)
-    × (eqb (event flat (started flat 1 .state) 1 0 9 .answer) 0 ≡ true)
+    × (eqb (event flat (started flat 1 .state) (eventOf 1 0 9) .answer) 0 ≡ true)
 
 tests : Tests
 unfolding witnesses
@@ -250,9 +252,9 @@ living-is-needed h =
     omega arith
 
 -- A rank alone that enters 9: the run has its entry, and its word.
-pub alone : Reaches flat 1 (event flat (started flat 1 .state) 1 0 9 .state)
-alone = next (started flat 1 .state) 1 0 9 (begun (eqb-true (started flat 1 .answer) 0 (tests .26))) (eqb-true (event flat (started flat 1 .state) 1 0 9 .answer) 0 (tests .27))
+pub alone : Reaches flat 1 (event flat (started flat 1 .state) (eventOf 1 0 9) .state)
+alone = next (started flat 1 .state) (eventOf 1 0 9) (begun (eqb-true (started flat 1 .answer) 0 (tests .26))) (eqb-true (event flat (started flat 1 .state) (eventOf 1 0 9) .answer) 0 (tests .27))
 
-pub a-word-is-entered : (hasEntered flat 1 (event flat (started flat 1 .state) 1 0 9 .state) alone 0 ≡ true) × (wordOf flat 1 (event flat (started flat 1 .state) 1 0 9 .state) alone 0 ≡ 9)
+pub a-word-is-entered : (hasEntered flat 1 (event flat (started flat 1 .state) (eventOf 1 0 9) .state) alone 0 ≡ true) × (wordOf flat 1 (event flat (started flat 1 .state) (eventOf 1 0 9) .state) alone 0 ≡ 9)
 unfolding hasEntered wordOf isEntry alone
 a-word-is-entered = (refl, refl)

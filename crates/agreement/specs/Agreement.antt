@@ -6,23 +6,24 @@ use mathlib.Core.Bool.{Bool, true, false, cond, _&&_}
 use lib.Dec.{eqb}
 use Rattle.sets.specs.Sets.{has}
 use Rattle.rank.specs.Words.{decided, allBits, combine}
+use Rattle.events.specs.declared.Event.{Event}
 use Rattle.state.specs.declared.State.{State}
 use Rattle.state.specs.States.{rankAt}
 use Rattle.group.specs.Reaching.{Reaches, begun, next}
 use Rattle.agreement.specs.Progress.{Lives}
 
 -- The event is: rank i enters.
-unfoldable pub isEntry : ℕ → ℕ → ℕ → Bool
-isEntry kind a i = eqb kind 1 && eqb a i
+unfoldable pub isEntry : Event → ℕ → Bool
+isEntry ev i = eqb (ev .kind) 1 && eqb (ev .a) i
 
 -- Rank i entered in the run, and the word that it entered with: all bits if it did not.
 unfoldable pub hasEntered : (anc : ℕ → ℕ) (n : ℕ) (s : State) → Reaches anc n s → ℕ → Bool
 hasEntered anc n s (begun z) i = false
-hasEntered anc n s (next s′ kind a b run z) i = cond (isEntry kind a i) true (hasEntered anc n s′ run i)
+hasEntered anc n s (next s′ ev run z) i = cond (isEntry ev i) true (hasEntered anc n s′ run i)
 
 unfoldable pub wordOf : (anc : ℕ → ℕ) (n : ℕ) (s : State) → Reaches anc n s → ℕ → ℕ
 wordOf anc n s (begun z) i = allBits
-wordOf anc n s (next s′ kind a b run z) i = cond (isEntry kind a i) b (wordOf anc n s′ run i)
+wordOf anc n s (next s′ ev run z) i = cond (isEntry ev i) (ev .b) (wordOf anc n s′ run i)
 
 -- The AND of the words of the members of a set below n.
 unfoldable pub andOf : (ℕ → ℕ) → ℕ → ℕ → ℕ

@@ -9,6 +9,7 @@ use Rattle.sets.specs.Sets.{has, minus, every}
 use Rattle.tree.specs.Tree.{flat}
 use Rattle.tree.specs.Calls.{same}
 use Rattle.rank.specs.Words.{outside, decided}
+use Rattle.events.specs.Events.{eventOf}
 use Rattle.state.specs.declared.State.{State}
 use Rattle.state.specs.States.{rankAt}
 use Rattle.state.specs.Starting.{started}
@@ -145,5 +146,5 @@ witnesses =
     ∷ same (shown (ended bereft) 3) (1 ∷ 3 ∷ 14 ∷ [])
     -- a rank alone enters 9
     ∷ eqb (started flat 1 .answer) 0
-    ∷ eqb (event flat (started flat 1 .state) 1 0 9 .answer) 0
+    ∷ eqb (event flat (started flat 1 .state) (eventOf 1 0 9) .answer) 0
     ∷ []

@@ -15,8 +15,9 @@ use Rattle.tree.specs.Tree.{flat}
 use Rattle.state.specs.States.{rankAt}
 use Rattle.order.proofs.Laws.Ordering.{in-order-facts}
 use Rattle.group.proofs.Laws.Reached.{reached-in-order}
+use Rattle.playing.specs.Playing.{Run}
 use Rattle.files.specs.Files.{longest, byteAt}
-use Rattle.schedule.specs.Runs.{Run, run}
+use Rattle.schedule.specs.Runs.{run}
 use Rattle.schedule.proofs.Laws.Opening.{long-alike}
 use Rattle.schedule.proofs.Laws.Slices.{same-run}
 use Rattle.schedule.proofs.Reaching.{run-reaches}

@@ -9,7 +9,8 @@ use Rattle.tree.specs.Tree.{flat}
 use Rattle.state.specs.declared.State.{State}
 use Rattle.state.specs.States.{rankAt}
 use Rattle.text.specs.Text.{lines}
-use Rattle.schedule.specs.Runs.{Run, run}
+use Rattle.playing.specs.Playing.{Run}
+use Rattle.schedule.specs.Runs.{run}
 use Rattle.lines.specs.Lines.{refusedLine}
 use Rattle.pictures.specs.Pictures.{picture, pictureRoom}
 

@@ -3,7 +3,7 @@ use mathlib.Core.Path.{_≡_}
 use Prim.Native.Nat.{ℕ}
 use contract.Lifetimes.{Lfts}
 use Rattle.sets.proofs.Laws.Alike.{alike}
-use Rattle.files.specs.declared.Event.{Event}
+use Rattle.events.specs.declared.Event.{Event}
 use Rattle.files.specs.declared.Header.{Header}
 use Rattle.files.proofs.event_at.Reads as event-at
 use Rattle.files.proofs.events_in.Reads as events-in

@@ -7,7 +7,8 @@ use lib.Dec.{eqb, ltb}
 use lib.ListN.{length, getD}
 use Rattle.tree.specs.Refusals.{accepted, badSize}
 use Rattle.tree.specs.Calls.{wrongSize}
-use Rattle.files.specs.declared.Event.{Event}
+use Rattle.events.specs.declared.Event.{Event}
+use Rattle.events.specs.Events.{eventOf}
 use Rattle.files.specs.declared.Header.{Header}
 use Rattle.files.specs.declared.Header.the-variants.{Good, NoHeader, WrongMark, WrongVersion, WrongSize, TooLong, Broken}
 
@@ -29,8 +30,7 @@ numberAt file i = shortAt file i + 65536 * shortAt file (i + 2)
 
 -- The event at a place of the schedule.
 unfoldable pub eventAt : List ℕ → ℕ → Event
-eventAt file k =
-    record { kind = byteAt file (6 + 9 * k); a = numberAt file (6 + 9 * k + 1); b = numberAt file (6 + 9 * k + 5) }
+eventAt file k = eventOf (byteAt file (6 + 9 * k)) (numberAt file (6 + 9 * k + 1)) (numberAt file (6 + 9 * k + 5))
 
 -- The number of whole events.
 unfoldable pub eventsIn : List ℕ → ℕ

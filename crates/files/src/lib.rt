@@ -1,4 +1,5 @@
 // The schedule file: its checks and its events.
+use events::Event;
 ghost use mathlib.Core.Path.{_≡_};
 ghost use Prim.Native.Nat.{_+_, _*_, _<_, _≤_};
 ghost use lib.ListN.{length};
@@ -13,13 +14,6 @@ pub enum Header {
     WrongSize,
     TooLong,
     Broken,
-}
-
-// One event of a schedule.
-pub struct Event {
-    pub kind: u32,
-    pub a: u32,
-    pub b: u32,
 }
 
 // A number of two bytes, least byte first.

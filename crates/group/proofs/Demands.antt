@@ -15,6 +15,8 @@ use Rattle.tree.proofs.Laws.Climbing.{path-ends, one-root, digits-enough, digit
 use Rattle.tree.proofs.Laws.Calls.{climb-whole}
 use Rattle.rank.specs.Words.{ask}
 use Rattle.rank.specs.Records.{awaiting}
+use Rattle.events.specs.declared.Event.{Event}
+use Rattle.events.specs.Events.{eventOf}
 use Rattle.state.specs.declared.State.{State}
 use Rattle.state.specs.States.{rankAt, rowAt, placeAt}
 use Rattle.order.specs.Between.{InOrder}
@@ -50,61 +52,61 @@ module _ (anc : ℕ → ℕ) (n : ℕ) (s : State) (run : Reaches anc n s) where
 -- ---- any accepted event
 
 -- An event that is neither a notice nor the delivery of an ASK leaves every row as it was.
-pub only-a-notice-or-an-ask-moves : (anc : ℕ → ℕ) (n : ℕ) (s : State) → Reaches anc n s → (kind a b : ℕ) → event anc s kind a b .answer ≡ 0
-    → (kind ≡ 4 → ⊥) → (kind ≡ 2 → placeAt s a .kind ≡ ask → ⊥) → (j : ℕ) → rowAt (event anc s kind a b .state) j ≡ rowAt s j
+pub only-a-notice-or-an-ask-moves : (anc : ℕ → ℕ) (n : ℕ) (s : State) → Reaches anc n s → (ev : Event) → event anc s ev .answer ≡ 0
+    → (ev .kind ≡ 4 → ⊥) → (ev .kind ≡ 2 → placeAt s (ev .a) .kind ≡ ask → ⊥) → (j : ℕ) → rowAt (event anc s ev .state) j ≡ rowAt s j
 only-a-notice-or-an-ask-moves anc n s run = others-move-nothing anc s (reached-in-order anc n s run)
 
 -- ---- a notice to rank a that rank b is dead
 
-module _ (anc : ℕ → ℕ) (n : ℕ) (s : State) (run : Reaches anc n s) (a b : ℕ) (z : event anc s 4 a b .answer ≡ 0) where
+module _ (anc : ℕ → ℕ) (n : ℕ) (s : State) (run : Reaches anc n s) (a b : ℕ) (z : event anc s (eventOf 4 a b) .answer ≡ 0) where
   -- Rank a then knows b's death besides those that it knew.
-  pub a-notice-marks : rankAt (event anc s 4 a b .state) a .marks ≡ add (rankAt s a .marks) b
+  pub a-notice-marks : rankAt (event anc s (eventOf 4 a b) .state) a .marks ≡ add (rankAt s a .marks) b
   a-notice-marks = notice-knows anc s (reached-in-order anc n s run) a b z
 
   -- One newly known death moves exactly the links that ended at the dead rank.
-  pub a-notice-moves-exactly : MovesExactly n b (rowAt s a) (rowAt (event anc s 4 a b .state) a)
+  pub a-notice-moves-exactly : MovesExactly n b (rowAt s a) (rowAt (event anc s (eventOf 4 a b) .state) a)
   a-notice-moves-exactly p l = notice-moves anc s (reached-in-order anc n s run) a b z p (reached-inside anc n s run p l)
 
   -- The set that it answers: a rank is in it exactly when it is unmarked after the mark and its entry ended at the newly marked one.
-  pub a-notice-answers-who-moved : (p : ℕ) → has (event anc s 4 a b .moved .ranks) p ≡ endedAt n b (rankAt (event anc s 4 a b .state) a .marks) (rowAt s a) p
+  pub a-notice-answers-who-moved : (p : ℕ) → has (event anc s (eventOf 4 a b) .moved .ranks) p ≡ endedAt n b (rankAt (event anc s (eventOf 4 a b) .state) a .marks) (rowAt s a) p
   a-notice-answers-who-moved p =
-      subst (λ (m : ℕ). has (event anc s 4 a b .moved .ranks) p ≡ endedAt m b (rankAt (event anc s 4 a b .state) a .marks) (rowAt s a) p) (reached-size anc n s run)
+      subst (λ (m : ℕ). has (event anc s (eventOf 4 a b) .moved .ranks) p ≡ endedAt m b (rankAt (event anc s (eventOf 4 a b) .state) a .marks) (rowAt s a) p) (reached-size anc n s run)
       (notice-who anc s (reached-in-order anc n s run) a b z p)
 
   -- Its count is that set's size.
-  pub a-notice-counts-who-moved : event anc s 4 a b .moved .count ≡ count (has (event anc s 4 a b .moved .ranks)) 64
+  pub a-notice-counts-who-moved : event anc s (eventOf 4 a b) .moved .count ≡ count (has (event anc s (eventOf 4 a b) .moved .ranks)) 64
   a-notice-counts-who-moved = rw (notice-answers anc s (reached-in-order anc n s run) a b z) (moved-size anc (s .group .n) (rankAt s a .marks) b)
 
   -- A death that was known already moves nothing.
-  pub a-known-death-moves-nothing : has (rankAt s a .marks) b ≡ true → rowAt (event anc s 4 a b .state) a ≡ rowAt s a
+  pub a-known-death-moves-nothing : has (rankAt s a .marks) b ≡ true → rowAt (event anc s (eventOf 4 a b) .state) a ≡ rowAt s a
   a-known-death-moves-nothing = known-death-stays anc s (reached-in-order anc n s run) a b z
 
 -- ---- the delivery of the message at place a
 
-module _ (anc : ℕ → ℕ) (n : ℕ) (s : State) (run : Reaches anc n s) (a b : ℕ) (z : event anc s 2 a b .answer ≡ 0) where
+module _ (anc : ℕ → ℕ) (n : ℕ) (s : State) (run : Reaches anc n s) (a b : ℕ) (z : event anc s (eventOf 2 a b) .answer ≡ 0) where
   -- A message to a dead rank, or from a sender that the receiver has marked, leaves every row as it was.
   pub a-dropped-message-moves-nothing : has (s .group .dead) (placeAt s a .to) || has (rankAt s (placeAt s a .to) .marks) (placeAt s a .from) ≡ true
-      → (j : ℕ) → rowAt (event anc s 2 a b .state) j ≡ rowAt s j
+      → (j : ℕ) → rowAt (event anc s (eventOf 2 a b) .state) j ≡ rowAt s j
   a-dropped-message-moves-nothing = dropped-moves-nothing anc s (reached-in-order anc n s run) a b z
 
   -- The receiver of an ASK that is taken then knows the death of every rank below the sender besides those that it knew.
   pub an-ask-marks : placeAt s a .kind ≡ ask → has (s .group .dead) (placeAt s a .to) || has (rankAt s (placeAt s a .to) .marks) (placeAt s a .from) ≡ false
-      → rankAt (event anc s 2 a b .state) (placeAt s a .to) .marks ≡ union (rankAt s (placeAt s a .to) .marks) (below (placeAt s a .from))
+      → rankAt (event anc s (eventOf 2 a b) .state) (placeAt s a .to) .marks ≡ union (rankAt s (placeAt s a .to) .marks) (below (placeAt s a .from))
   an-ask-marks = ask-knows anc s (reached-in-order anc n s run) a b z
 
   -- Its marks, one after the other, each move exactly the links that ended at the rank that is marked.
   pub an-ask-moves-exactly : placeAt s a .kind ≡ ask → has (s .group .dead) (placeAt s a .to) || has (rankAt s (placeAt s a .to) .marks) (placeAt s a .from) ≡ false
-      → AskMoves anc n (rankAt s (placeAt s a .to) .marks) (placeAt s a .from) (rowAt s (placeAt s a .to)) (rowAt (event anc s 2 a b .state) (placeAt s a .to))
+      → AskMoves anc n (rankAt s (placeAt s a .to) .marks) (placeAt s a .from) (rowAt s (placeAt s a .to)) (rowAt (event anc s (eventOf 2 a b) .state) (placeAt s a .to))
   an-ask-moves-exactly k t =
-      subst (λ (m : ℕ). AskMoves anc m (rankAt s (placeAt s a .to) .marks) (placeAt s a .from) (rowAt s (placeAt s a .to)) (rowAt (event anc s 2 a b .state) (placeAt s a .to))) (reached-size anc n s run)
+      subst (λ (m : ℕ). AskMoves anc m (rankAt s (placeAt s a .to) .marks) (placeAt s a .from) (rowAt s (placeAt s a .to)) (rowAt (event anc s (eventOf 2 a b) .state) (placeAt s a .to))) (reached-size anc n s run)
       (ask-moves anc s (reached-in-order anc n s run) a b z k t)
 
   -- The set that it answers: a rank is in it exactly when, at one of these marks, it is unmarked after the mark and its entry ended at the newly
   -- marked one.
   pub an-ask-answers-who-moved : placeAt s a .kind ≡ ask → has (s .group .dead) (placeAt s a .to) || has (rankAt s (placeAt s a .to) .marks) (placeAt s a .from) ≡ false
-      → (p : ℕ) → has (event anc s 2 a b .moved .ranks) p ≡ endedAtSome anc n (rankAt s (placeAt s a .to) .marks) (placeAt s a .from) p
+      → (p : ℕ) → has (event anc s (eventOf 2 a b) .moved .ranks) p ≡ endedAtSome anc n (rankAt s (placeAt s a .to) .marks) (placeAt s a .from) p
   an-ask-answers-who-moved k t p =
-      subst (λ (m : ℕ). has (event anc s 2 a b .moved .ranks) p ≡ endedAtSome anc m (rankAt s (placeAt s a .to) .marks) (placeAt s a .from) p) (reached-size anc n s run)
+      subst (λ (m : ℕ). has (event anc s (eventOf 2 a b) .moved .ranks) p ≡ endedAtSome anc m (rankAt s (placeAt s a .to) .marks) (placeAt s a .from) p) (reached-size anc n s run)
       (ask-who anc s (reached-in-order anc n s run) a b z k t p)
 
 -- ---- the climb

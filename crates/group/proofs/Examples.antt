@@ -11,7 +11,8 @@ use Rattle.rank.specs.Records.{becoming, combining, concluding, parentOf, child
 use Rattle.rank.specs.Sends.{silent, reports, tells as tellsAll, letter, letters}
 use Rattle.rank.specs.Rules.{inPhase, saying, deciding, settled, settling, entering}
 use Rattle.net.specs.Net.{padded, without}
-use Rattle.refusals.specs.Refusing.{namesRank, namesPlace, wrongKind, wrongRank, noMessage, isDead, notOutside, isLiving, isLast, bothLive, lateRefusal, refusal}
+use Rattle.events.specs.Events.{namesRank, namesPlace}
+use Rattle.refusals.specs.Refusing.{wrongKind, wrongRank, noMessage, isDead, notOutside, isLiving, isLast, bothLive, lateRefusal, refusal}
 use Rattle.state.specs.Starting.{firstRank, firstRow, freshState, emptyState, started}
 use Rattle.order.specs.Order.{proper, clauses, rankInOrder, isWithin, memberInOrder, zeroRecord, strangerInOrder, seatInOrder, seatInOrderAt, messageInOrder, zeroPlace, placeInOrder, placeInOrderAt, inOrder}
 use Rattle.plans.specs.Plans.{subject, acting, refusing, accepting, afterwards, fitting, planned}

@@ -8,6 +8,7 @@ use Rattle.rank.specs.declared.Send.{Send}
 use Rattle.rank.specs.Words.{ask}
 use Rattle.rank.proofs.Turn.{Says, Turn}
 use Rattle.rank.proofs.Speech.{SaysWord, Speech}
+use Rattle.events.specs.declared.Event.{Event}
 use Rattle.state.specs.declared.State.{State}
 use Rattle.state.specs.States.{rankAt, placeAt}
 
@@ -60,5 +61,5 @@ pub data Move (anc : ℕ → ℕ) (n : ℕ) (Entry : ℕ → ℕ → Type 0) (s 
   by-loss : ByLoss s s′ → Move anc n Entry s s′
 
 -- An event of kind 1: rank p, which is a, enters with the word v, which is b.
-abbrev pub Entry : ℕ → ℕ → ℕ → ℕ → ℕ → Type 0
-Entry kind a b p v = (kind ≡ 1) × (p ≡ a) × (v ≡ b)
+abbrev pub Entry : Event → ℕ → ℕ → Type 0
+Entry ev p v = (ev .kind ≡ 1) × (p ≡ ev .a) × (v ≡ ev .b)

@@ -11,6 +11,7 @@ use Rattle.tree.specs.Calls.{wrongSize}
 use Rattle.rank.specs.declared.Message.{Message}
 use Rattle.rank.specs.Sends.{letters, size}
 use Rattle.net.specs.Net.{without, placed}
+use Rattle.events.specs.declared.Event.{Event}
 use Rattle.state.specs.declared.State.{State}
 use Rattle.state.specs.States.{joined, rankAt, rowAt, placeAt, flying}
 use Rattle.order.specs.Order.{inOrder}
@@ -46,21 +47,21 @@ carried s place me p =
     (refused (p .answer) s)
 
 -- The rank of an event on a state, and its plan.
-unfoldable pub subjectOf : State → ℕ → ℕ → ℕ
-subjectOf s kind a = subject (s .group .n) kind a (placeAt s a)
+unfoldable pub subjectOf : State → Event → ℕ
+subjectOf s ev = subject (s .group .n) ev (placeAt s (ev .a))
 
-unfoldable pub planOf : (ℕ → ℕ) → State → ℕ → ℕ → ℕ → Plan
-planOf anc s kind a b =
-    planned anc (s .group .n) (s .group .dead) (s .group .count) kind a b (placeAt s a) (subjectOf s kind a)
-    (rankAt s (subjectOf s kind a)) (rowAt s (subjectOf s kind a))
+unfoldable pub planOf : (ℕ → ℕ) → State → Event → Plan
+planOf anc s ev =
+    planned anc (s .group .n) (s .group .dead) (s .group .count) ev (placeAt s (ev .a)) (subjectOf s ev)
+    (rankAt s (subjectOf s ev)) (rowAt s (subjectOf s ev))
 
 -- The step of an event on a state in order.
-unfoldable pub stepped : (ℕ → ℕ) → State → ℕ → ℕ → ℕ → Stepped
-stepped anc s kind a b = carried s a (subjectOf s kind a) (planOf anc s kind a b)
+unfoldable pub stepped : (ℕ → ℕ) → State → Event → Stepped
+stepped anc s ev = carried s (ev .a) (subjectOf s ev) (planOf anc s ev)
 
 -- An event on a state handed in: the size (1), then the order (2), then the step.
-unfoldable pub event : (ℕ → ℕ) → State → ℕ → ℕ → ℕ → Stepped
-event anc s kind a b =
+unfoldable pub event : (ℕ → ℕ) → State → Event → Stepped
+event anc s ev =
     cond (wrongSize (s .group .n)) (refused badSize s)
-    (cond (inOrder anc s) (stepped anc s kind a b)
+    (cond (inOrder anc s) (stepped anc s ev)
     (refused notInOrder s))

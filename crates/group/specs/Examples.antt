@@ -6,6 +6,7 @@ use lib.Dec.{eqb}
 use Rattle.tree.specs.Tree.{flat}
 use Rattle.tree.specs.Examples as Tree
 use Rattle.rank.specs.Words.{decided}
+use Rattle.events.specs.Events.{eventOf}
 use Rattle.state.specs.States.{rankAt}
 use Rattle.state.specs.Starting.{started}
 use Rattle.group.specs.declared.Stepped.{Stepped}
@@ -16,7 +17,7 @@ answers r number sent = eqb (r .answer) number && eqb (r .sent) sent
 
 -- one rank that enters with 9
 unfoldable pub alone : Stepped
-alone = event flat (started flat 1 .state) 1 0 9
+alone = event flat (started flat 1 .state) (eventOf 1 0 9)
 
 unfoldable pub examples : List Bool
 examples =
@@ -24,7 +25,7 @@ examples =
     Tree.examples
     -- 8. n=1, enter 9: decided 9, sent 0; crash: 9.
     ++ (answers alone 0 0 ∷ eqb (rankAt (alone .state) 0 .phase) decided ∷ eqb (rankAt (alone .state) 0 .result) 9
-    ∷ eqb (event flat (alone .state) 3 0 0 .answer) 9
+    ∷ eqb (event flat (alone .state) (eventOf 3 0 0) .answer) 9
     -- 9. Sizes 0 and 65: 1; 64 accepted.
     ∷ eqb (started flat 0 .answer) 1 ∷ eqb (started flat 65 .answer) 1 ∷ eqb (started flat 64 .answer) 0
     ∷ [])

@@ -8,6 +8,7 @@ use lib.ListN.{getD}
 use Rattle.sets.specs.Sets.{has, add, union, below, some}
 use Rattle.tree.specs.Tree.{fresh, endedAt}
 use Rattle.tree.specs.Refusals.{accepted}
+use Rattle.events.specs.declared.Event.{Event}
 use Rattle.state.specs.declared.State.{State}
 use Rattle.state.specs.Starting.{started}
 use Rattle.group.specs.Events.{event}
@@ -15,7 +16,7 @@ use Rattle.group.specs.Events.{event}
 -- A run of the group: from an accepted start of size n, by accepted events.
 pub data Reaches (anc : ℕ → ℕ) (n : ℕ) : State → Type 0 where
   begun : started anc n .answer ≡ accepted → Reaches anc n (started anc n .state)
-  next : (s : State) (kind a b : ℕ) → Reaches anc n s → event anc s kind a b .answer ≡ accepted → Reaches anc n (event anc s kind a b .state)
+  next : (s : State) (ev : Event) → Reaches anc n s → event anc s ev .answer ≡ accepted → Reaches anc n (event anc s ev .state)
 
 -- From one table to the next exactly the links that ended at q have moved: for every rank p below n, its entry differs where it was q,
 -- and nowhere else.

@@ -1,4 +1,5 @@
 // The group: one event on a state handed in. The entry point for callers is event; it refuses bad input and requires nothing.
+use events::Event;
 use net::Joined;
 use plans::Plan;
 use rank::Message;
@@ -37,32 +38,30 @@ pub fn buried(dead: u64, me: u8, dies: bool) -> u64
 }
 
 // The rank that an event is about.
-fn subject_of(s: State, kind: u32, a: u32) -> u8
-    ensures { λ t. ⌜ t ≡ subjectOf s kind a ⌝ }
+fn subject_of(s: State, ev: Event) -> u8
+    ensures { λ t. ⌜ t ≡ subjectOf s ev ⌝ }
 {
     let g = s.group;
     let net = g.net;
-    plans::subject(g.n, kind, a, net::at(net, a))
+    plans::subject(g.n, ev, net::at(net, ev.a))
 }
 
 // What an event on a state in order will change.
-fn plan_of(s: State, kind: u32, a: u32, b: u32) -> Plan
+fn plan_of(s: State, ev: Event) -> Plan
     requires { ⌜ InOrder flat s ⌝ }
-    ensures { λ t. ⌜ t ≡ planOf flat s kind a b ⌝ }
+    ensures { λ t. ⌜ t ≡ planOf flat s ev ⌝ }
 {
     let g = s.group;
     let net = g.net;
-    let m = net::at(net, a);
-    let me = plans::subject(g.n, kind, a, m);
+    let m = net::at(net, ev.a);
+    let me = plans::subject(g.n, ev, m);
     let ranks = g.ranks;
     let tables = state::tables_of(s);
     plans::plan_event(
         g.n,
         g.dead,
         g.count,
-        kind,
-        a,
-        b,
+        ev,
         m,
         me,
         ranks[me as usize],
@@ -123,11 +122,11 @@ fn refused(answer: u32, s: State) -> Stepped
 }
 
 // One event on a state in order.
-pub fn step(s: State, kind: u32, a: u32, b: u32) -> Stepped
+pub fn step(s: State, ev: Event) -> Stepped
     requires { ⌜ InOrder flat s ⌝ }
-    ensures { λ t. ⌜ t ≡ stepped flat s kind a b ⌝ }
+    ensures { λ t. ⌜ t ≡ stepped flat s ev ⌝ }
 {
-    let p = plan_of(s, kind, a, b);
+    let p = plan_of(s, ev);
     if p.answer != 0 {
         return refused(p.answer, s);
     }
@@ -139,13 +138,13 @@ pub fn step(s: State, kind: u32, a: u32, b: u32) -> Stepped
         answer: 0,
         sent: sets::size(first.to) as u32 + sets::size(second.to) as u32,
         moved,
-        state: carry(s, a, subject_of(s, kind, a), p),
+        state: carry(s, ev.a, subject_of(s, ev), p),
     }
 }
 
 // Entry point: one event on a state handed in. Refuses with 1 to 11.
-pub fn event(s: State, kind: u32, a: u32, b: u32) -> Stepped
-    ensures { λ t. ⌜ t ≡ event flat s kind a b ⌝ }
+pub fn event(s: State, ev: Event) -> Stepped
+    ensures { λ t. ⌜ t ≡ event flat s ev ⌝ }
 {
     let g = s.group;
     if tree::wrong_size(g.n as u32) {
@@ -154,5 +153,5 @@ pub fn event(s: State, kind: u32, a: u32, b: u32) -> Stepped
     if !order::in_order(s) {
         return refused(2, s);
     }
-    step(s, kind, a, b)
+    step(s, ev)
 }

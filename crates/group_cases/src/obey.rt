@@ -1,6 +1,7 @@
 // The commands that act: s starts a group of the last number, e is an event of the last three, any other changes the state by hand.
 use super::by_hand;
 use super::script::Reader;
+use events::Event;
 use group::Stepped;
 use state::State;
 use tree::Moved;
@@ -24,9 +25,14 @@ fn with_state(t: Stepped, state: State) -> Stepped {
 
 pub fn obey(t: Stepped, r: Reader, b: u8) -> Stepped {
     let s = t.state;
+    let ev = Event {
+        kind: r.x,
+        a: r.y,
+        b: r.z,
+    };
     match b {
         b's' => start(r.z),
-        b'e' => group::event(s, r.x, r.y, r.z),
+        b'e' => group::event(s, ev),
         _ => with_state(t, by_hand::after(s, r, b)),
     }
 }

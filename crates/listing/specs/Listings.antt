@@ -7,8 +7,9 @@ use lib.ListN.{getD}
 use Rattle.state.specs.declared.State.{State}
 use Rattle.state.specs.States.{zeroRank}
 use Rattle.text.specs.Text.{lines}
+use Rattle.playing.specs.Playing.{Run}
 use Rattle.files.specs.Files.{mostEvents, longest, eventsIn}
-use Rattle.schedule.specs.Runs.{Run, run}
+use Rattle.schedule.specs.Runs.{run}
 use Rattle.lines.specs.Lines.{firstLine, eventLine, rankLine, lastLine, refusedLine}
 
 -- The rank lines of a state, ascending.

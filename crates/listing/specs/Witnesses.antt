@@ -11,13 +11,16 @@ use Rattle.tree.specs.Calls.{same}
 use Rattle.tree.specs.Examples.{tallies}
 use Rattle.rank.specs.declared.Rank.{Rank}
 use Rattle.net.specs.Net.{inFlight}
+use Rattle.events.specs.Events.{eventOf}
 use Rattle.state.specs.declared.State.{State}
 use Rattle.state.specs.States.{joined, rankAt}
 use Rattle.state.specs.Starting.{started}
 use Rattle.group.specs.declared.Stepped.{Stepped}
 use Rattle.group.specs.Events.{event}
+use Rattle.playing.specs.Playing.{Run, played}
+use Rattle.files.specs.Files.{eventAt}
 use Rattle.files.specs.Cases.{file}
-use Rattle.schedule.specs.Runs.{Run, stepAt, played, run}
+use Rattle.schedule.specs.Runs.{run}
 use Rattle.schedule.specs.Samples.{then, three}
 use Rattle.listing.specs.Listings.{report}
 
@@ -63,14 +66,14 @@ threeListing =
 
 -- The example after its first k events, and its rank i.
 unfoldable pub later : ℕ → State
-later k = played flat three k 0 (started flat 3 .state) [] .state
+later k = played flat (eventAt three) k 0 (started flat 3 .state) [] .state
 
 unfoldable pub seen : ℕ → ℕ → Rank
 seen k i = rankAt (later k) i
 
 -- Event k of the example is accepted.
 unfoldable pub goes : ℕ → Bool
-goes k = eqb (stepAt flat three k (later k) .answer) 0
+goes k = eqb (event flat (later k) (eventAt three k) .answer) 0
 
 unfoldable pub one : State
 one = started flat 1 .state
@@ -80,10 +83,10 @@ two = started flat 2 .state
 
 -- rank 1 of two has entered, and its UP is in flight; it has crashed
 unfoldable pub reporting : State
-reporting = event flat two 1 1 5 .state
+reporting = event flat two (eventOf 1 1 5) .state
 
 unfoldable pub widowed : State
-widowed = event flat reporting 3 1 0 .state
+widowed = event flat reporting (eventOf 3 1 0) .state
 
 -- nobody lives; and 128 messages are in flight
 unfoldable pub extinct : State
@@ -104,11 +107,11 @@ crowded =
 -- Rank 2 of four, and rank 3 of five: it has reported, every rank below it has crashed, and it is told of them one after the other, until it is
 -- the root and asks the last rank, which knows no death.
 unfoldable pub four : State
-four = played flat (file 4 (then 1 2 7 (then 3 0 0 (then 3 1 0 (then 4 2 0 (then 4 2 1 [])))))) 5 0 (started flat 4 .state) [] .state
+four = played flat (eventAt (file 4 (then 1 2 7 (then 3 0 0 (then 3 1 0 (then 4 2 0 (then 4 2 1 []))))))) 5 0 (started flat 4 .state) [] .state
 
 unfoldable pub five : State
 five =
-    played flat (file 5 (then 1 3 7 (then 3 0 0 (then 3 1 0 (then 3 2 0 (then 4 3 0 (then 4 3 1 (then 4 3 2 [])))))))) 7 0 (started flat 5 .state) [] .state
+    played flat (eventAt (file 5 (then 1 3 7 (then 3 0 0 (then 3 1 0 (then 3 2 0 (then 4 3 0 (then 4 3 1 (then 4 3 2 []))))))))) 7 0 (started flat 5 .state) [] .state
 
 -- An event is accepted, and moves these ranks, counted so often.
 unfoldable pub movesThese : Stepped → ℕ → ℕ → Bool
@@ -125,24 +128,24 @@ leaves r number out = eqb (r .answer) number && eqb (r .state .group .n) 0 && sa
 unfoldable pub witnesses : List Bool
 witnesses =
     -- 1: a start, and an event on what it gives
-    eqb (started flat 0 .answer) 1 ∷ eqb (started flat 65 .answer) 1 ∷ refuses (event flat (started flat 65 .state) 1 0 0) 1
+    eqb (started flat 0 .answer) 1 ∷ eqb (started flat 65 .answer) 1 ∷ refuses (event flat (started flat 65 .state) (eventOf 1 0 0)) 1
     -- 2: nobody lives
-    ∷ refuses (event flat extinct 1 0 0) 2
+    ∷ refuses (event flat extinct (eventOf 1 0 0)) 2
     -- 3: no such kind; a delivery with b
-    ∷ refuses (event flat two 6 0 0) 3
-    ∷ refuses (event flat reporting 2 0 1) 3
+    ∷ refuses (event flat two (eventOf 6 0 0)) 3
+    ∷ refuses (event flat reporting (eventOf 2 0 1)) 3
     -- 4: who enters; who is dead
-    ∷ refuses (event flat two 1 2 0) 4
-    ∷ refuses (event flat two 4 0 2) 4
+    ∷ refuses (event flat two (eventOf 1 2 0)) 4
+    ∷ refuses (event flat two (eventOf 4 0 2)) 4
     -- 5 and 6
-    ∷ refuses (event flat two 2 0 0) 5
-    ∷ refuses (event flat widowed 1 1 0) 6
+    ∷ refuses (event flat two (eventOf 2 0 0)) 5
+    ∷ refuses (event flat widowed (eventOf 1 1 0)) 6
     -- 7 to 11
-    ∷ refuses (event flat reporting 1 1 5) 7
-    ∷ refuses (event flat two 4 0 1) 8
-    ∷ refuses (event flat one 3 0 0) 9
-    ∷ refuses (event flat reporting 5 0 0) 10
-    ∷ refuses (event flat crowded 1 1 0) 11
+    ∷ refuses (event flat reporting (eventOf 1 1 5)) 7
+    ∷ refuses (event flat two (eventOf 4 0 1)) 8
+    ∷ refuses (event flat one (eventOf 3 0 0)) 9
+    ∷ refuses (event flat reporting (eventOf 5 0 0)) 10
+    ∷ refuses (event flat crowded (eventOf 1 1 0)) 11
     -- a run: a bad header, and 25
     ∷ leaves (run flat [] (7 ∷ [])) 20 (7 ∷ [])
     ∷ leaves (run flat (file 1 (then 1 0 9 [])) (7 ∷ 7 ∷ [])) 25 (7 ∷ 7 ∷ [])
@@ -161,15 +164,15 @@ witnesses =
     -- ASK: rank 2 marks rank 0, owes rank 1, and reports to it.
     ∷ (goes 8 && has (seen 9 2 .marks) 0 && has (seen 9 2 .owed) 1 && eqb (seen 9 2 .phase) 2)
     -- moved of a notice: in rank 1's view of three, and in rank 2's by the ASK, rank 1 moves.
-    ∷ (movesThese (stepAt flat three 6 (later 6)) 0b10 1 && movesThese (stepAt flat three 8 (later 8)) 0b10 1)
+    ∷ (movesThese (event flat (later 6) (eventAt three 6)) 0b10 1 && movesThese (event flat (later 8) (eventAt three 8)) 0b10 1)
     -- moved of an ASK, the union over its marks: of 1, then 2 and 3, though the second mark marks 1.
-    ∷ (movesThese (event flat four 2 1 0) 0b1110 3 && has (rankAt (event flat four 2 1 0 .state) 3 .marks) 1)
+    ∷ (movesThese (event flat four (eventOf 2 1 0)) 0b1110 3 && has (rankAt (event flat four (eventOf 2 1 0) .state) 3 .marks) 1)
     -- and the sum over its marks: 1, then 2 and 3, then 3 and 4, so 3 counts twice.
-    ∷ movesThese (event flat five 2 2 0) 0b11110 5
+    ∷ movesThese (event flat five (eventOf 2 2 0)) 0b11110 5
     -- DOWN: rank 2 decides 6.
     ∷ (goes 10 && eqb (seen 11 2 .phase) 3 && eqb (seen 11 2 .result) 6)
     -- A lost message.
-    ∷ eqb (event flat widowed 5 0 0 .answer) 0
+    ∷ eqb (event flat widowed (eventOf 5 0 0) .answer) 0
     -- The whole example prints its listing.
     ∷ same (report flat three (replicate 36 0)) threeListing
     ∷ []

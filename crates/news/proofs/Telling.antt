@@ -16,6 +16,8 @@ use Rattle.rank.specs.declared.Acted.{Acted}
 use Rattle.rank.specs.Words.{ask}
 use Rattle.rank.proofs.Laws.Keeping.{fresh-marks}
 use Rattle.rank.proofs.Laws.Knowing.{ask-marks, ask-row, notice-marks, notice-row}
+use Rattle.events.specs.declared.Event.{Event}
+use Rattle.events.specs.Events.{eventOf}
 use Rattle.state.specs.declared.State.{State}
 use Rattle.state.specs.States.{rankAt, placeAt}
 use Rattle.state.specs.Starting.{started}
@@ -58,21 +60,21 @@ module _ (anc : ℕ → ℕ) (n me : ℕ) where
 
 module _ (anc : ℕ → ℕ) (s : State) (o : InOrder anc s) (i : ℕ) where
   -- the marks of rank i after it
-  abbrev after : ℕ → ℕ → ℕ → ℕ
-  after kind a b = rankAt (event anc s kind a b .state) i .marks
+  abbrev after : Event → ℕ
+  after ev = rankAt (event anc s ev .state) i .marks
 
-  abbrev Brings : ℕ → ℕ → ℕ → Type 0
-  Brings kind a b = after kind a b ≡ foldl add (rankAt s i .marks) (allTold (brings s kind a b i))
+  abbrev Brings : Event → Type 0
+  Brings ev = after ev ≡ foldl add (rankAt s i .marks) (allTold (brings s ev i))
 
-  by-notice : (a b : ℕ) → event anc s 4 a b .answer ≡ 0 → Brings 4 a b
+  by-notice : (a b : ℕ) → event anc s (eventOf 4 a b) .answer ≡ 0 → Brings (eventOf 4 a b)
   unfolding brings tellsOf allTold
   by-notice a b z = ⊎-elim own other (eq-or-ne a i)
     where
-      own : a ≡ i → Brings 4 a b
-      own e = rw (eq-eqb a i e) (subst (λ (j : ℕ). rankAt (event anc s 4 a b .state) j .marks ≡ add (rankAt s j .marks) b) e (notice-knows anc s o a b z))
+      own : a ≡ i → Brings (eventOf 4 a b)
+      own e = rw (eq-eqb a i e) (subst (λ (j : ℕ). rankAt (event anc s (eventOf 4 a b) .state) j .marks ≡ add (rankAt s j .marks) b) e (notice-knows anc s o a b z))
 
-      other : (a ≡ i → ⊥) → Brings 4 a b
-      other d = rw (ne-eqb a i d) (ap (λ (r : Rank). r .marks) (others-stay anc s o 4 a b z i (λ e. d (sym (e ∙ notice-about anc s o a b z .0))) .0))
+      other : (a ≡ i → ⊥) → Brings (eventOf 4 a b)
+      other d = rw (ne-eqb a i d) (ap (λ (r : Rank). r .marks) (others-stay anc s o (eventOf 4 a b) z i (λ e. d (sym (e ∙ notice-about anc s o a b z .0))) .0))
 
   -- the message at place a would be dropped at rank j
   abbrev drops : ℕ → ℕ → Bool
@@ -96,26 +98,26 @@ module _ (anc : ℕ → ℕ) (s : State) (o : InOrder anc s) (i : ℕ) where
       (not-i (drops a i) f)) t)
 
   -- an ASK that is not taken, and any other message
-  untold : (a b : ℕ) → event anc s 2 a b .answer ≡ 0 → takesAsk s a i ≡ false → after 2 a b ≡ rankAt s i .marks
-  untold a b z t = ⊎-elim an-ask (λ (d : placeAt s a .kind ≡ ask → ⊥). others-tell-nothing anc s o 2 a b z (λ e. absurd (omega arith)) (λ e. d) i) (eq-or-ne (placeAt s a .kind) ask)
+  untold : (a b : ℕ) → event anc s (eventOf 2 a b) .answer ≡ 0 → takesAsk s a i ≡ false → after (eventOf 2 a b) ≡ rankAt s i .marks
+  untold a b z t = ⊎-elim an-ask (λ (d : placeAt s a .kind ≡ ask → ⊥). others-tell-nothing anc s o (eventOf 2 a b) z (λ e. absurd (omega arith)) (λ e. d) i) (eq-or-ne (placeAt s a .kind) ask)
     where
-      own : placeAt s a .kind ≡ ask → placeAt s a .to ≡ i → after 2 a b ≡ rankAt s i .marks
+      own : placeAt s a .kind ≡ ask → placeAt s a .to ≡ i → after (eventOf 2 a b) ≡ rankAt s i .marks
       own k e = dropped-tells-nothing anc s o a b z (subst (λ (j : ℕ). drops a j ≡ true) (sym e) (ask-dropped a t k e)) i
 
-      other : (placeAt s a .to ≡ i → ⊥) → after 2 a b ≡ rankAt s i .marks
-      other d = ap (λ (r : Rank). r .marks) (others-stay anc s o 2 a b z i (λ e. d (sym (e ∙ delivery-about anc s o a b z))) .0)
+      other : (placeAt s a .to ≡ i → ⊥) → after (eventOf 2 a b) ≡ rankAt s i .marks
+      other d = ap (λ (r : Rank). r .marks) (others-stay anc s o (eventOf 2 a b) z i (λ e. d (sym (e ∙ delivery-about anc s o a b z))) .0)
 
-      an-ask : placeAt s a .kind ≡ ask → after 2 a b ≡ rankAt s i .marks
+      an-ask : placeAt s a .kind ≡ ask → after (eventOf 2 a b) ≡ rankAt s i .marks
       an-ask k = ⊎-elim (own k) other (eq-or-ne (placeAt s a .to) i)
 
   -- an ASK that is
-  asks-all-below : (a b : ℕ) → event anc s 2 a b .answer ≡ 0 → takesAsk s a i ≡ true → after 2 a b ≡ union (rankAt s i .marks) (below (placeAt s a .from))
+  asks-all-below : (a b : ℕ) → event anc s (eventOf 2 a b) .answer ≡ 0 → takesAsk s a i ≡ true → after (eventOf 2 a b) ≡ union (rankAt s i .marks) (below (placeAt s a .from))
   asks-all-below a b z t =
       let k = ask-taken a t in
-      subst (λ (j : ℕ). rankAt (event anc s 2 a b .state) j .marks ≡ union (rankAt s j .marks) (below (placeAt s a .from))) (k .1)
+      subst (λ (j : ℕ). rankAt (event anc s (eventOf 2 a b) .state) j .marks ≡ union (rankAt s j .marks) (below (placeAt s a .from))) (k .1)
       (ask-knows anc s o a b z (k .0) (subst (λ (j : ℕ). drops a j ≡ false) (sym (k .1)) (k .2)))
 
-  by-delivery : (a b : ℕ) → event anc s 2 a b .answer ≡ 0 → Brings 2 a b
+  by-delivery : (a b : ℕ) → event anc s (eventOf 2 a b) .answer ≡ 0 → Brings (eventOf 2 a b)
   unfolding brings tellsOf allTold
   by-delivery a b z =
       ⊎-elim
@@ -124,18 +126,18 @@ module _ (anc : ℕ → ℕ) (s : State) (o : InOrder anc s) (i : ℕ) where
       (passes-or-fails (takesAsk s a i))
 
   -- An accepted event adds to what a rank knows what it brings that rank.
-  pub event-brings : (kind a b : ℕ) → event anc s kind a b .answer ≡ 0 → Brings kind a b
+  pub event-brings : (ev : Event) → event anc s ev .answer ≡ 0 → Brings ev
   unfolding brings tellsOf allTold
-  event-brings kind a b z = ⊎-elim told-so (λ (d : kind ≡ 4 → ⊥). ⊎-elim sent-so (neither d) (eq-or-ne kind 2)) (eq-or-ne kind 4)
+  event-brings ev z = ⊎-elim told-so (λ (d : ev .kind ≡ 4 → ⊥). ⊎-elim sent-so (neither d) (eq-or-ne (ev .kind) 2)) (eq-or-ne (ev .kind) 4)
     where
-      told-so : kind ≡ 4 → Brings kind a b
-      told-so e = subst (λ (k : ℕ). event anc s k a b .answer ≡ 0 → Brings k a b) (sym e) (by-notice a b) z
+      told-so : ev .kind ≡ 4 → Brings ev
+      told-so e = subst (λ (k : ℕ). event anc s (eventOf k (ev .a) (ev .b)) .answer ≡ 0 → Brings (eventOf k (ev .a) (ev .b))) (sym e) (by-notice (ev .a) (ev .b)) z
 
-      sent-so : kind ≡ 2 → Brings kind a b
-      sent-so e = subst (λ (k : ℕ). event anc s k a b .answer ≡ 0 → Brings k a b) (sym e) (by-delivery a b) z
+      sent-so : ev .kind ≡ 2 → Brings ev
+      sent-so e = subst (λ (k : ℕ). event anc s (eventOf k (ev .a) (ev .b)) .answer ≡ 0 → Brings (eventOf k (ev .a) (ev .b))) (sym e) (by-delivery (ev .a) (ev .b)) z
 
-      neither : (kind ≡ 4 → ⊥) → (kind ≡ 2 → ⊥) → Brings kind a b
-      neither d c = rw (ne-eqb kind 4 d, ne-eqb kind 2 c) (others-tell-nothing anc s o kind a b z d (λ e. absurd (c e)) i)
+      neither : (ev .kind ≡ 4 → ⊥) → (ev .kind ≡ 2 → ⊥) → Brings ev
+      neither d c = rw (ne-eqb (ev .kind) 4 d, ne-eqb (ev .kind) 2 c) (others-tell-nothing anc s o ev z d (λ e. absurd (c e)) i)
 
 -- ---- a run
 
@@ -148,7 +150,7 @@ module _ (anc : ℕ → ℕ) (n i : ℕ) (l : i < n) where
   pub knows-its-news : (s : State) (run : Reaches anc n s) → rankAt s i .marks ≡ foldl add 0 (allTold (newsTo anc n s run i))
   unfolding newsTo
   knows-its-news s (begun z) = knows-nothing (reached-small anc n (started anc n .state) (begun z) .1) z
-  knows-its-news s (next s′ kind a b run z) =
-      event-brings anc s′ (reached-in-order anc n s′ run) i kind a b z
-      ∙ ap (λ (w : ℕ). foldl add w (allTold (brings s′ kind a b i))) (knows-its-news s′ run)
-      ∙ sym (ap (foldl add 0) (told-append (newsTo anc n s′ run i) (brings s′ kind a b i)) ∙ foldl-append add 0 (allTold (newsTo anc n s′ run i)) (allTold (brings s′ kind a b i)))
+  knows-its-news s (next s′ ev run z) =
+      event-brings anc s′ (reached-in-order anc n s′ run) i ev z
+      ∙ ap (λ (w : ℕ). foldl add w (allTold (brings s′ ev i))) (knows-its-news s′ run)
+      ∙ sym (ap (foldl add 0) (told-append (newsTo anc n s′ run i) (brings s′ ev i)) ∙ foldl-append add 0 (allTold (newsTo anc n s′ run i)) (allTold (brings s′ ev i)))

@@ -8,11 +8,14 @@ use lib.ListN.{getD, replicate}
 use Rattle.sets.specs.Sets.{has, every}
 use Rattle.tree.specs.Tree.{flat}
 use Rattle.tree.specs.Calls.{same, mended}
+use Rattle.events.specs.declared.Event.{Event}
+use Rattle.events.specs.Events.{eventOf}
 use Rattle.state.specs.declared.State.{State}
 use Rattle.state.specs.States.{rankAt, rowAt}
 use Rattle.group.specs.Events.{event}
+use Rattle.playing.specs.Playing.{Run}
 use Rattle.files.specs.Cases.{file}
-use Rattle.schedule.specs.Runs.{Run, run}
+use Rattle.schedule.specs.Runs.{run}
 use Rattle.schedule.specs.Samples.{then}
 use Rattle.news.specs.News.{isIn, byNotice, byAsk, allTold, brings}
 
@@ -77,11 +80,12 @@ saysNothing f = every (λ k. eqb (getD (wholeRun f .answers) (3 * k) 1) 0 && eqb
 -- ---- the words of the claims
 
 -- The ranks that an event tells rank i of: once 1 has asked; and once 1 has died besides and 2 has been told of it.
-unfoldable pub tellsNow : ℕ → ℕ → ℕ → ℕ → List ℕ → Bool
-tellsNow kind a b i wanted = same (allTold (brings (wholeRun asking .state) kind a b i)) wanted
+unfoldable pub tellsNow : Event → ℕ → List ℕ → Bool
+tellsNow ev i wanted = same (allTold (brings (wholeRun asking .state) ev i)) wanted
 
-unfoldable pub tellsLate : ℕ → ℕ → ℕ → ℕ → List ℕ → Bool
-tellsLate kind a b i wanted = same (allTold (brings (event flat (event flat (wholeRun asking .state) 3 1 0 .state) 4 2 1 .state) kind a b i)) wanted
+unfoldable pub tellsLate : Event → ℕ → List ℕ → Bool
+tellsLate ev i wanted =
+    same (allTold (brings (event flat (event flat (wholeRun asking .state) (eventOf 3 1 0) .state) (eventOf 4 2 1) .state) ev i)) wanted
 
 unfoldable pub examples : List Bool
 examples =
@@ -106,13 +110,13 @@ examples =
     ∷ not (isIn 2 (3 ∷ 1 ∷ 1 ∷ []))
     ∷ same (allTold (byNotice 3 ∷ byAsk 2 ∷ [])) (3 ∷ 0 ∷ 1 ∷ [])
     -- a notice tells its rank; the ASK from 1 tells 2 of 0, and nobody else, and the report tells nobody
-    ∷ tellsNow 4 2 0 2 (0 ∷ [])
-    ∷ tellsNow 4 2 0 1 []
-    ∷ tellsNow 2 1 0 2 (0 ∷ [])
-    ∷ tellsNow 2 1 0 1 []
-    ∷ tellsNow 2 0 0 0 []
+    ∷ tellsNow (eventOf 4 2 0) 2 (0 ∷ [])
+    ∷ tellsNow (eventOf 4 2 0) 1 []
+    ∷ tellsNow (eventOf 2 1 0) 2 (0 ∷ [])
+    ∷ tellsNow (eventOf 2 1 0) 1 []
+    ∷ tellsNow (eventOf 2 0 0) 0 []
     -- once 2 has marked 1, the ASK is dropped
-    ∷ tellsLate 2 1 0 2 []
+    ∷ tellsLate (eventOf 2 1 0) 2 []
     -- 1 knows of a death that 2 does not, both live, and their tables differ
     ∷ not (has (wholeRun asking .state .group .dead) 1 || has (wholeRun asking .state .group .dead) 2)
     ∷ not (same (rowAt (wholeRun asking .state) 1) (rowAt (wholeRun asking .state) 2))

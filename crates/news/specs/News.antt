@@ -14,7 +14,8 @@ use Rattle.tree.specs.declared.Marked.{Marked}
 use Rattle.rank.specs.declared.Acted.{Acted}
 use Rattle.rank.specs.Words.{ask}
 use Rattle.rank.specs.Rules.{takingAsk, noticing}
-use Rattle.refusals.specs.Refusing.{delivers, notices}
+use Rattle.events.specs.declared.Event.{Event}
+use Rattle.events.specs.Events.{delivers, notices}
 use Rattle.state.specs.declared.State.{State}
 use Rattle.state.specs.States.{rankAt, rowAt, placeAt}
 use Rattle.group.specs.Reaching.{Reaches, begun, next}
@@ -131,16 +132,16 @@ takesAsk s a i =
     eqb (placeAt s a .kind) ask && eqb (placeAt s a .to) i && not (has (s .group .dead) i || has (rankAt s i .marks) (placeAt s a .from))
 
 -- The news that an event brings rank i.
-unfoldable pub brings : State → ℕ → ℕ → ℕ → ℕ → List News
-brings s kind a b i =
-    cond (eqb kind notices && eqb a i) (byNotice b ∷ [])
-    (cond (eqb kind delivers && takesAsk s a i) (byAsk (placeAt s a .from) ∷ [])
+unfoldable pub brings : State → Event → ℕ → List News
+brings s ev i =
+    cond (eqb (ev .kind) notices && eqb (ev .a) i) (byNotice (ev .b) ∷ [])
+    (cond (eqb (ev .kind) delivers && takesAsk s (ev .a) i) (byAsk (placeAt s (ev .a) .from) ∷ [])
     [])
 
 -- All news that a run brought it, in the order in which it came.
 unfoldable pub newsTo : (anc : ℕ → ℕ) (n : ℕ) (s : State) → Reaches anc n s → ℕ → List News
 newsTo anc n s (begun z) i = []
-newsTo anc n s (next s′ kind a b run z) i = newsTo anc n s′ run i ++ brings s′ kind a b i
+newsTo anc n s (next s′ ev run z) i = newsTo anc n s′ run i ++ brings s′ ev i
 
 -- In a reached state a rank has marked those that the run's news told it of, whatever came between, and its table is the fresh one.
 abbrev pub RunsInAnyOrder : (ℕ → ℕ) → Type 0

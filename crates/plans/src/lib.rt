@@ -1,4 +1,5 @@
 // The plan of an event: what it will change, decided from one rank's record and row and the message at the place.
+use events::Event;
 use rank::Acted;
 use rank::DOWN;
 use rank::Message;
@@ -35,14 +36,14 @@ fn idle(r: Rank, row: [u8; 64]) -> Acted
 }
 
 // The rank that an event is about.
-pub fn subject(n: u8, kind: u32, a: u32, m: Message) -> u8
-    ensures { λ t. ⌜ t ≡ subject n kind a m ⌝ }
+pub fn subject(n: u8, ev: Event, m: Message) -> u8
+    ensures { λ t. ⌜ t ≡ subject n ev m ⌝ }
 {
-    if refusals::names_place(kind) {
+    if events::names_place(ev.kind) {
         return m.to;
     }
-    if a < (n as u32) {
-        return a as u8;
+    if ev.a < (n as u32) {
+        return ev.a as u8;
     }
     0
 }
@@ -65,19 +66,19 @@ fn deliver(n: u8, dead: u64, m: Message, me: u8, r: Rank, row: [u8; 64]) -> Acte
 }
 
 // What the event has its rank do.
-fn act(n: u8, dead: u64, kind: u32, b: u32, m: Message, me: u8, r: Rank, row: [u8; 64]) -> Acted
+fn act(n: u8, dead: u64, ev: Event, m: Message, me: u8, r: Rank, row: [u8; 64]) -> Acted
     requires { ⌜ FreshSubject flat n m me r row ⌝ }
-    requires { ⌜ (kind ≡ 4 → b < n) ⌝ }
-    ensures { λ t. ⌜ t ≡ acting flat n dead kind b m me r row ⌝ }
+    requires { ⌜ (ev .kind ≡ 4 → ev .b < n) ⌝ }
+    ensures { λ t. ⌜ t ≡ acting flat n dead ev m me r row ⌝ }
 {
-    if kind == refusals::ENTERS {
-        return r.enter(n, me, row, b);
+    if ev.kind == events::ENTERS {
+        return r.enter(n, me, row, ev.b);
     }
-    if kind == refusals::DELIVERS {
+    if ev.kind == events::DELIVERS {
         return deliver(n, dead, m, me, r, row);
     }
-    if kind == refusals::NOTICES {
-        return r.notice(n, me, row, b as u8);
+    if ev.kind == events::NOTICES {
+        return r.notice(n, me, row, ev.b as u8);
     }
     idle(r, row)
 }
@@ -113,32 +114,30 @@ pub fn plan_event(
     n: u8,
     dead: u64,
     count: u8,
-    kind: u32,
-    a: u32,
-    b: u32,
+    ev: Event,
     m: Message,
     me: u8,
     r: Rank,
     row: [u8; 64],
 ) -> Plan
     requires { ⌜ FreshSubject flat n m me r row ⌝ }
-    ensures { λ t. ⌜ t ≡ planned flat n dead count kind a b m me r row ⌝ }
+    ensures { λ t. ⌜ t ≡ planned flat n dead count ev m me r row ⌝ }
 {
-    let number = refusals::refusal(n, dead, count, kind, a, b, r, m);
+    let number = refusals::refusal(n, dead, count, ev, r, m);
     if number != 0 {
         return refuse(number, r, row);
     }
-    let acted = act(n, dead, kind, b, m, me, r, row);
+    let acted = act(n, dead, ev, m, me, r, row);
     let first = acted.first;
     let second = acted.second;
-    let leaves = refusals::names_place(kind);
+    let leaves = events::names_place(ev.kind);
     if 128 < afterwards(count, sets::size(first.to), sets::size(second.to), leaves) {
         return refuse(11, r, row);
     }
     Plan {
         answer: 0,
         leaves,
-        dies: kind == refusals::CRASHES,
+        dies: ev.kind == events::CRASHES,
         acted,
     }
 }

@@ -1,5 +1,4 @@
 -- All that the crates above cite of a run.
-pub mod Runs
 pub mod Opening
 pub mod Ending
 pub mod Slices

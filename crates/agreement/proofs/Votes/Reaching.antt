@@ -14,6 +14,8 @@ use Rattle.tree.specs.Relations.{Ancestry, Chained}
 use Rattle.rank.specs.declared.Rank.{Rank}
 use Rattle.rank.specs.Words.{outside}
 use Rattle.rank.proofs.Speech.{Enters, Hears, Keeps}
+use Rattle.events.specs.declared.Event.{Event}
+use Rattle.events.specs.Events.{eventOf}
 use Rattle.state.specs.declared.State.{State}
 use Rattle.state.specs.States.{rankAt}
 use Rattle.state.specs.Starting.{freshState, started}
@@ -72,44 +74,44 @@ module _ (anc : ℕ → ℕ) (n : ℕ) (small : n ≤ 64) (words : ℕ → ℕ) 
 
 -- ---- the words of a run
 
-module _ (anc : ℕ → ℕ) (n : ℕ) (s : State) (kind a b : ℕ) (run : Reaches anc n s) (z : event anc s kind a b .answer ≡ 0) where
+module _ (anc : ℕ → ℕ) (n : ℕ) (s : State) (ev : Event) (run : Reaches anc n s) (z : event anc s ev .answer ≡ 0) where
   -- the word of the rank that enters
-  votes-word : (p v : ℕ) → Entry kind a b p v → wordOf anc n (event anc s kind a b .state) (next s kind a b run z) p ≡ v
+  votes-word : (p v : ℕ) → Entry ev p v → wordOf anc n (event anc s ev .state) (next s ev run z) p ≡ v
   unfolding wordOf isEntry
-  votes-word p v (k, e, w) = cond-true (eqb kind 1 && eqb a p) b (wordOf anc n s run p) (and-i (eqb kind 1) (eqb a p) (eq-eqb kind 1 k) (eq-eqb a p (sym e))) ∙ sym w
+  votes-word p v (k, e, w) = cond-true (isEntry ev p) (ev .b) (wordOf anc n s run p) (and-i (eqb (ev .kind) 1) (eqb (ev .a) p) (eq-eqb (ev .kind) 1 k) (eq-eqb (ev .a) p (sym e))) ∙ sym w
 
   -- any other's stays
-  word-stays : (i : ℕ) → Entered n s i → wordOf anc n (event anc s kind a b .state) (next s kind a b run z) i ≡ wordOf anc n s run i
+  word-stays : (i : ℕ) → Entered n s i → wordOf anc n (event anc s ev .state) (next s ev run z) i ≡ wordOf anc n s run i
   unfolding wordOf isEntry
-  word-stays i e = cond-false (eqb kind 1 && eqb a i) b (wordOf anc n s run i) (⊎-elim (λ (t : eqb kind 1 && eqb a i ≡ true). absurd (again t)) (λ (t : eqb kind 1 && eqb a i ≡ false). t) (passes-or-fails (eqb kind 1 && eqb a i)))
+  word-stays i e = cond-false (isEntry ev i) (ev .b) (wordOf anc n s run i) (⊎-elim (λ (t : isEntry ev i ≡ true). absurd (again t)) (λ (t : isEntry ev i ≡ false). t) (passes-or-fails (isEntry ev i)))
     where
-      again : eqb kind 1 && eqb a i ≡ true → ⊥
+      again : isEntry ev i ≡ true → ⊥
       again t =
-          let k : kind ≡ 1 = eqb-true kind 1 (and-l (eqb kind 1) (eqb a i) t) in
-          let y : a ≡ i = eqb-true a i (and-r (eqb kind 1) (eqb a i) t) in
-          e .1 (subst (λ (j : ℕ). rankAt s j .phase ≡ outside) y (enters-from-outside anc s a b (reached-in-order anc n s run) (subst (λ (j : ℕ). event anc s j a b .answer ≡ 0) k z)))
+          let k : ev .kind ≡ 1 = eqb-true (ev .kind) 1 (and-l (eqb (ev .kind) 1) (eqb (ev .a) i) t) in
+          let y : ev .a ≡ i = eqb-true (ev .a) i (and-r (eqb (ev .kind) 1) (eqb (ev .a) i) t) in
+          e .1 (subst (λ (j : ℕ). rankAt s j .phase ≡ outside) y (enters-from-outside anc s (ev .a) (ev .b) (reached-in-order anc n s run) (subst (λ (j : ℕ). event anc s (eventOf j (ev .a) (ev .b)) .answer ≡ 0) k z)))
 
-  entry-counts : (i : ℕ) → Entered n s i ⊎ ((v : ℕ) × Entry kind a b i v) → (Entered n s i → hasEntered anc n s run i ≡ true) → hasEntered anc n (event anc s kind a b .state) (next s kind a b run z) i ≡ true
+  entry-counts : (i : ℕ) → Entered n s i ⊎ ((v : ℕ) × Entry ev i v) → (Entered n s i → hasEntered anc n s run i ≡ true) → hasEntered anc n (event anc s ev .state) (next s ev run z) i ≡ true
   unfolding hasEntered isEntry
-  entry-counts i (inl e) before = ap (λ (t : Bool). cond (eqb kind 1 && eqb a i) true t) (before e) ∙ same (eqb kind 1 && eqb a i)
+  entry-counts i (inl e) before = ap (λ (t : Bool). cond (isEntry ev i) true t) (before e) ∙ same (isEntry ev i)
     where
       same : (t : Bool) → cond t true true ≡ true
       same true = refl
       same false = refl
-  entry-counts i (inr (v, (k, e, w))) before = cond-true (eqb kind 1 && eqb a i) true (hasEntered anc n s run i) (and-i (eqb kind 1) (eqb a i) (eq-eqb kind 1 k) (eq-eqb a i (sym e)))
+  entry-counts i (inr (v, (k, e, w))) before = cond-true (isEntry ev i) true (hasEntered anc n s run i) (and-i (eqb (ev .kind) 1) (eqb (ev .a) i) (eq-eqb (ev .kind) 1 k) (eq-eqb (ev .a) i (sym e)))
 
 -- A rank that is not outside has entered in the run.
 pub entered-in-the-run : (anc : ℕ → ℕ) → Ancestry anc → (n : ℕ) (s : State) (run : Reaches anc n s) (i : ℕ) → Entered n s i → hasEntered anc n s run i ≡ true
 entered-in-the-run anc tree n s (begun z) i e = absurd (e .1 (subst (λ (x : State). rankAt x i .phase ≡ outside) (sym (started-fresh anc n z .1)) (all-outside anc n (reached-small anc n (started anc n .state) (begun z) .1) i (e .0))))
-entered-in-the-run anc tree n s (next s′ kind a b run z) i e =
-    entry-counts anc n s′ kind a b run z i (was-entered anc n (Entry kind a b) s′ (event anc s′ kind a b .state) (reached-moves anc tree n s′ kind a b run z) i e) (λ h. entered-in-the-run anc tree n s′ run i h)
+entered-in-the-run anc tree n s (next s′ ev run z) i e =
+    entry-counts anc n s′ ev run z i (was-entered anc n (Entry ev) s′ (event anc s′ ev .state) (reached-moves anc tree n s′ ev run z) i e) (λ h. entered-in-the-run anc tree n s′ run i h)
 
 pub reached-votes : (anc : ℕ → ℕ) → Ancestry anc → Chained anc → (n : ℕ) (s : State) (run : Reaches anc n s) → Votes anc n (wordOf anc n s run) s
 reached-votes anc tree chain n s (begun z) =
     subst (Votes anc n (wordOf anc n (started anc n .state) (begun z))) (sym (started-fresh anc n z .1))
     (fresh-votes anc n (reached-small anc n (started anc n .state) (begun z) .1) (wordOf anc n (started anc n .state) (begun z)))
-reached-votes anc tree chain n s (next s′ kind a b run z) =
-    a-move-keeps-votes anc tree chain n (reached-small anc n s′ run .1) (Entry kind a b) s′ (event anc s′ kind a b .state) (reached-truthful anc n (event anc s′ kind a b .state) (next s′ kind a b run z))
-    (wordOf anc n s′ run) (wordOf anc n (event anc s′ kind a b .state) (next s′ kind a b run z))
-    (votes-word anc n s′ kind a b run z) (word-stays anc n s′ kind a b run z)
-    (reached-votes anc tree chain n s′ run) (reached-moves anc tree n s′ kind a b run z)
+reached-votes anc tree chain n s (next s′ ev run z) =
+    a-move-keeps-votes anc tree chain n (reached-small anc n s′ run .1) (Entry ev) s′ (event anc s′ ev .state) (reached-truthful anc n (event anc s′ ev .state) (next s′ ev run z))
+    (wordOf anc n s′ run) (wordOf anc n (event anc s′ ev .state) (next s′ ev run z))
+    (votes-word anc n s′ ev run z) (word-stays anc n s′ ev run z)
+    (reached-votes anc tree chain n s′ run) (reached-moves anc tree n s′ ev run z)

@@ -15,8 +15,10 @@ use Rattle.rank.specs.Sends.{letters, size}
 use Rattle.rank.proofs.Laws.Letters.{length-letters}
 use Rattle.net.specs.Net.{without}
 use Rattle.net.proofs.Laws.Net.{padded-take}
-use Rattle.refusals.specs.Refusing.{namesPlace}
-use Rattle.refusals.proofs.Laws.Refusing.{clean-rank, clean-names, names-a-rank}
+use Rattle.events.specs.declared.Event.{Event}
+use Rattle.events.specs.Events.{namesPlace}
+use Rattle.events.proofs.Laws.Naming.{names-a-rank}
+use Rattle.refusals.proofs.Laws.Refusing.{clean-rank, clean-names}
 use Rattle.state.specs.declared.State.{State}
 use Rattle.state.specs.States.{rankAt, rowAt, placeAt, flying}
 use Rattle.order.specs.Between.{InOrder}
@@ -31,91 +33,91 @@ use Rattle.group.proofs.Laws.Events.{event-steps-on, event-accepted, ev
 use Rattle.group.proofs.Laws.Knowing.{actingOn, step-acts, step-row}
 
 -- what a step answers besides its state
-step-sent : (anc : ℕ → ℕ) (s : State) (kind a b : ℕ) → stepped anc s kind a b .answer ≡ 0 → stepped anc s kind a b .sent ≡ size (planOf anc s kind a b .acted .first) + size (planOf anc s kind a b .acted .second)
+step-sent : (anc : ℕ → ℕ) (s : State) (ev : Event) → stepped anc s ev .answer ≡ 0 → stepped anc s ev .sent ≡ size (planOf anc s ev .acted .first) + size (planOf anc s ev .acted .second)
 unfolding stepped carried
-step-sent anc s kind a b z = rw (eq-eqb (planOf anc s kind a b .answer) 0 (step-plan anc s kind a b z))
+step-sent anc s ev z = rw (eq-eqb (planOf anc s ev .answer) 0 (step-plan anc s ev z))
 
-step-moved : (anc : ℕ → ℕ) (s : State) (kind a b : ℕ) → stepped anc s kind a b .answer ≡ 0 → stepped anc s kind a b .moved ≡ planOf anc s kind a b .acted .moved
+step-moved : (anc : ℕ → ℕ) (s : State) (ev : Event) → stepped anc s ev .answer ≡ 0 → stepped anc s ev .moved ≡ planOf anc s ev .acted .moved
 unfolding stepped carried
-step-moved anc s kind a b z = rw (eq-eqb (planOf anc s kind a b .answer) 0 (step-plan anc s kind a b z))
+step-moved anc s ev z = rw (eq-eqb (planOf anc s ev .answer) 0 (step-plan anc s ev z))
 
 applied-flying : (s : State) (place me : ℕ) (p : Plan) → flying (applied s place me p) ≡ posted (flying s) place me p
 unfolding applied
 applied-flying s place me p = padded-take (posted (flying s) place me p)
 
 -- a kind that names a place is about a receiver, any other about rank a
-pub named-rank : (s : State) (kind a : ℕ) → namesPlace kind ≡ false → named s kind a ≡ a
+pub named-rank : (s : State) (ev : Event) → namesPlace (ev .kind) ≡ false → named s ev ≡ ev .a
 unfolding named
-named-rank s kind a t = cond-false (namesPlace kind) (placeAt s a .to) a t
+named-rank s ev t = cond-false (namesPlace (ev .kind)) (placeAt s (ev .a) .to) (ev .a) t
 
-pub named-receiver : (s : State) (kind a : ℕ) → namesPlace kind ≡ true → named s kind a ≡ placeAt s a .to
+pub named-receiver : (s : State) (ev : Event) → namesPlace (ev .kind) ≡ true → named s ev ≡ placeAt s (ev .a) .to
 unfolding named
-named-receiver s kind a t = cond-true (namesPlace kind) (placeAt s a .to) a t
+named-receiver s ev t = cond-true (namesPlace (ev .kind)) (placeAt s (ev .a) .to) (ev .a) t
 
-module _ (anc : ℕ → ℕ) (s : State) (o : InOrder anc s) (kind a b : ℕ) (z : event anc s kind a b .answer ≡ 0) where
-  steps : event anc s kind a b ≡ stepped anc s kind a b
-  steps = event-steps-on anc s kind a b o
+module _ (anc : ℕ → ℕ) (s : State) (o : InOrder anc s) (ev : Event) (z : event anc s ev .answer ≡ 0) where
+  steps : event anc s ev ≡ stepped anc s ev
+  steps = event-steps-on anc s ev o
 
-  goes : stepped anc s kind a b .answer ≡ 0
-  goes = event-accepted anc s kind a b o z
+  goes : stepped anc s ev .answer ≡ 0
+  goes = event-accepted anc s ev o z
 
-  taken : Taken anc s kind a b (planOf anc s kind a b)
-  taken = step-taken anc s kind a b goes
+  taken : Taken anc s ev (planOf anc s ev)
+  taken = step-taken anc s ev goes
 
   -- ---- the rank that it names
 
-  pub subject-is : subjectOf s kind a ≡ named s kind a
+  pub subject-is : subjectOf s ev ≡ named s ev
   unfolding named
-  subject-is = go (namesPlace kind) refl
+  subject-is = go (namesPlace (ev .kind)) refl
     where
-      go : (t : Bool) → namesPlace kind ≡ t → subjectOf s kind a ≡ cond t (placeAt s a .to) a
-      go true e = subject-receives s kind a e
-      go false e = subject-named s kind a e (clean-rank _ _ _ _ _ _ _ _ (taken .clean) (clean-names _ _ _ _ _ _ _ _ (taken .clean) e) .0)
+      go : (t : Bool) → namesPlace (ev .kind) ≡ t → subjectOf s ev ≡ cond t (placeAt s (ev .a) .to) (ev .a)
+      go true e = subject-receives s ev e
+      go false e = subject-named s ev e (clean-rank _ _ _ _ _ _ (taken .clean) (clean-names _ _ _ _ _ _ (taken .clean) e) .0)
 
-  doing-is : actingOn anc s kind a b ≡ doing anc s kind a b
+  doing-is : actingOn anc s ev ≡ doing anc s ev
   unfolding doing
-  doing-is = ap (λ (p : ℕ). acting anc (s .group .n) (s .group .dead) kind b (placeAt s a) p (rankAt s p) (rowAt s p)) subject-is
+  doing-is = ap (λ (p : ℕ). acting anc (s .group .n) (s .group .dead) ev (placeAt s (ev .a)) p (rankAt s p) (rowAt s p)) subject-is
 
-  acts : planOf anc s kind a b .acted ≡ doing anc s kind a b
+  acts : planOf anc s ev .acted ≡ doing anc s ev
   acts = taken .acted-is ∙ doing-is
 
-  pub moved-is : event anc s kind a b .moved ≡ doing anc s kind a b .moved
-  moved-is = ap (λ (x : Stepped). x .moved) steps ∙ step-moved anc s kind a b goes ∙ ap (λ (x : Acted). x .moved) acts
+  pub moved-is : event anc s ev .moved ≡ doing anc s ev .moved
+  moved-is = ap (λ (x : Stepped). x .moved) steps ∙ step-moved anc s ev goes ∙ ap (λ (x : Acted). x .moved) acts
 
-  pub record-is : rankAt (event anc s kind a b .state) (named s kind a) ≡ doing anc s kind a b .rank
+  pub record-is : rankAt (event anc s ev .state) (named s ev) ≡ doing anc s ev .rank
   record-is =
-      subst (λ (i : ℕ). rankAt (event anc s kind a b .state) i ≡ doing anc s kind a b .rank) subject-is
-      (ap (λ (x : Stepped). rankAt (x .state) (subjectOf s kind a)) steps ∙ step-acts anc s kind a b (in-order-facts anc s o) goes ∙ ap (λ (x : Acted). x .rank) doing-is)
+      subst (λ (i : ℕ). rankAt (event anc s ev .state) i ≡ doing anc s ev .rank) subject-is
+      (ap (λ (x : Stepped). rankAt (x .state) (subjectOf s ev)) steps ∙ step-acts anc s ev (in-order-facts anc s o) goes ∙ ap (λ (x : Acted). x .rank) doing-is)
 
-  pub row-is : rowAt (event anc s kind a b .state) (named s kind a) ≡ doing anc s kind a b .row
+  pub row-is : rowAt (event anc s ev .state) (named s ev) ≡ doing anc s ev .row
   row-is =
-      subst (λ (i : ℕ). rowAt (event anc s kind a b .state) i ≡ doing anc s kind a b .row) subject-is
-      (ap (λ (x : Stepped). rowAt (x .state) (subjectOf s kind a)) steps ∙ step-row anc s kind a b (in-order-facts anc s o) goes ∙ ap (λ (x : Acted). x .row) doing-is)
+      subst (λ (i : ℕ). rowAt (event anc s ev .state) i ≡ doing anc s ev .row) subject-is
+      (ap (λ (x : Stepped). rowAt (x .state) (subjectOf s ev)) steps ∙ step-row anc s ev (in-order-facts anc s o) goes ∙ ap (λ (x : Acted). x .row) doing-is)
 
   -- ---- the dead
 
-  pub dead-is : event anc s kind a b .state .group .dead ≡ cond (eqb kind 3) (add (s .group .dead) a) (s .group .dead)
+  pub dead-is : event anc s ev .state .group .dead ≡ cond (eqb (ev .kind) 3) (add (s .group .dead) (ev .a)) (s .group .dead)
   unfolding applied
-  dead-is = ap (λ (x : State). x .group .dead) (event-applied anc s kind a b o z) ∙ ap (λ (t : Bool). cond t (add (s .group .dead) (subjectOf s kind a)) (s .group .dead)) (taken .dies-is) ∙ go (eqb kind 3) refl
+  dead-is = ap (λ (x : State). x .group .dead) (event-applied anc s ev o z) ∙ ap (λ (t : Bool). cond t (add (s .group .dead) (subjectOf s ev)) (s .group .dead)) (taken .dies-is) ∙ go (eqb (ev .kind) 3) refl
     where
-      go : (t : Bool) → eqb kind 3 ≡ t → cond t (add (s .group .dead) (subjectOf s kind a)) (s .group .dead) ≡ cond t (add (s .group .dead) a) (s .group .dead)
+      go : (t : Bool) → eqb (ev .kind) 3 ≡ t → cond t (add (s .group .dead) (subjectOf s ev)) (s .group .dead) ≡ cond t (add (s .group .dead) (ev .a)) (s .group .dead)
       go true e =
-          let t = names-a-rank kind (inr (inl (eqb-true kind 3 e))) in
-          ap (add (s .group .dead)) (subject-named s kind a (t .1) (clean-rank _ _ _ _ _ _ _ _ (taken .clean) (t .0) .0))
+          let t = names-a-rank (ev .kind) (inr (inl (eqb-true (ev .kind) 3 e))) in
+          ap (add (s .group .dead)) (subject-named s ev (t .1) (clean-rank _ _ _ _ _ _ (taken .clean) (t .0) .0))
       go false e = refl
 
   -- ---- the list
 
-  pub flying-is : flying (event anc s kind a b .state) ≡ cond (namesPlace kind) (without a (flying s)) (flying s) ++ sends anc s kind a b
+  pub flying-is : flying (event anc s ev .state) ≡ cond (namesPlace (ev .kind)) (without (ev .a) (flying s)) (flying s) ++ sends anc s ev
   unfolding posted sends
   flying-is =
-      ap flying (event-applied anc s kind a b o z) ∙ applied-flying s a (subjectOf s kind a) (planOf anc s kind a b)
-      ∙ append-assoc (cond (planOf anc s kind a b .leaves) (without a (flying s)) (flying s)) (letters (subjectOf s kind a) (planOf anc s kind a b .acted .first)) (letters (subjectOf s kind a) (planOf anc s kind a b .acted .second))
+      ap flying (event-applied anc s ev o z) ∙ applied-flying s (ev .a) (subjectOf s ev) (planOf anc s ev)
+      ∙ append-assoc (cond (planOf anc s ev .leaves) (without (ev .a) (flying s)) (flying s)) (letters (subjectOf s ev) (planOf anc s ev .acted .first)) (letters (subjectOf s ev) (planOf anc s ev .acted .second))
       ∙ rw (taken .leaves-is, subject-is, acts)
 
-  pub sent-is : event anc s kind a b .sent ≡ length (sends anc s kind a b)
+  pub sent-is : event anc s ev .sent ≡ length (sends anc s ev)
   unfolding sends
   sent-is =
-      ap (λ (x : Stepped). x .sent) steps ∙ step-sent anc s kind a b goes
+      ap (λ (x : Stepped). x .sent) steps ∙ step-sent anc s ev goes
       ∙ ap (λ (x : Acted). size (x .first) + size (x .second)) acts
-      ∙ sym (length-append (letters (named s kind a) (doing anc s kind a b .first)) (letters (named s kind a) (doing anc s kind a b .second)) ∙ ap₂ (λ (x y : ℕ). x + y) (length-letters (named s kind a) (doing anc s kind a b .first)) (length-letters (named s kind a) (doing anc s kind a b .second)))
+      ∙ sym (length-append (letters (named s ev) (doing anc s ev .first)) (letters (named s ev) (doing anc s ev .second)) ∙ ap₂ (λ (x y : ℕ). x + y) (length-letters (named s ev) (doing anc s ev .first)) (length-letters (named s ev) (doing anc s ev .second)))

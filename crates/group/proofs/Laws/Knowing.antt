@@ -6,6 +6,7 @@ use native.Mathlib.Omega.{arith}
 use lib.Seq.{getD-set-same}
 use borrow.Author.Tests.{eq-eqb}
 use Rattle.rank.specs.declared.Acted.{Acted}
+use Rattle.events.specs.declared.Event.{Event}
 use Rattle.state.specs.declared.State.{State}
 use Rattle.state.specs.States.{zeroRank, rankAt, rowAt, placeAt}
 use Rattle.order.proofs.Facts.{InOrderFacts}
@@ -14,20 +15,20 @@ use Rattle.group.specs.Events.{applied, carried, subjectOf, planOf, step
 use Rattle.group.proofs.Laws.Stepping.{step-plan, step-taken, subject-in}
 
 -- what an accepted step has its rank do
-abbrev pub actingOn : (ℕ → ℕ) → State → ℕ → ℕ → ℕ → Acted
-actingOn anc s kind a b = acting anc (s .group .n) (s .group .dead) kind b (placeAt s a) (subjectOf s kind a) (rankAt s (subjectOf s kind a)) (rowAt s (subjectOf s kind a))
+abbrev pub actingOn : (ℕ → ℕ) → State → Event → Acted
+actingOn anc s ev = acting anc (s .group .n) (s .group .dead) ev (placeAt s (ev .a)) (subjectOf s ev) (rankAt s (subjectOf s ev)) (rowAt s (subjectOf s ev))
 
 -- its record, and its row
-pub step-acts : (anc : ℕ → ℕ) (s : State) (kind a b : ℕ) → InOrderFacts anc s → stepped anc s kind a b .answer ≡ 0 → rankAt (stepped anc s kind a b .state) (subjectOf s kind a) ≡ actingOn anc s kind a b .rank
+pub step-acts : (anc : ℕ → ℕ) (s : State) (ev : Event) → InOrderFacts anc s → stepped anc s ev .answer ≡ 0 → rankAt (stepped anc s ev .state) (subjectOf s ev) ≡ actingOn anc s ev .rank
 unfolding stepped carried applied
-step-acts anc s kind a b f z =
-    rw (eq-eqb (planOf anc s kind a b .answer) 0 (step-plan anc s kind a b z))
-    (getD-set-same (s .group .ranks) (subjectOf s kind a) (planOf anc s kind a b .acted .rank) zeroRank (let x = f .shaped .ranks-long in let y = f .size-high in omega (arith, subject-in anc s f kind a))
-    ∙ ap (λ (x : Acted). x .rank) (step-taken anc s kind a b z .acted-is))
+step-acts anc s ev f z =
+    rw (eq-eqb (planOf anc s ev .answer) 0 (step-plan anc s ev z))
+    (getD-set-same (s .group .ranks) (subjectOf s ev) (planOf anc s ev .acted .rank) zeroRank (let x = f .shaped .ranks-long in let y = f .size-high in omega (arith, subject-in anc s f ev))
+    ∙ ap (λ (x : Acted). x .rank) (step-taken anc s ev z .acted-is))
 
-pub step-row : (anc : ℕ → ℕ) (s : State) (kind a b : ℕ) → InOrderFacts anc s → stepped anc s kind a b .answer ≡ 0 → rowAt (stepped anc s kind a b .state) (subjectOf s kind a) ≡ actingOn anc s kind a b .row
+pub step-row : (anc : ℕ → ℕ) (s : State) (ev : Event) → InOrderFacts anc s → stepped anc s ev .answer ≡ 0 → rowAt (stepped anc s ev .state) (subjectOf s ev) ≡ actingOn anc s ev .row
 unfolding stepped carried applied
-step-row anc s kind a b f z =
-    rw (eq-eqb (planOf anc s kind a b .answer) 0 (step-plan anc s kind a b z))
-    (getD-set-same (s .tables) (subjectOf s kind a) (planOf anc s kind a b .acted .row) [] (let x = f .shaped .rows-long in let y = f .size-high in omega (arith, subject-in anc s f kind a))
-    ∙ ap (λ (x : Acted). x .row) (step-taken anc s kind a b z .acted-is))
+step-row anc s ev f z =
+    rw (eq-eqb (planOf anc s ev .answer) 0 (step-plan anc s ev z))
+    (getD-set-same (s .tables) (subjectOf s ev) (planOf anc s ev .acted .row) [] (let x = f .shaped .rows-long in let y = f .size-high in omega (arith, subject-in anc s f ev))
+    ∙ ap (λ (x : Acted). x .row) (step-taken anc s ev z .acted-is))

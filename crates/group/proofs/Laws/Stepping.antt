@@ -16,7 +16,8 @@ use Rattle.rank.specs.declared.Message.{Message}
 use Rattle.rank.specs.Sends.{letters}
 use Rattle.net.specs.declared.Joined.{Joined}
 use Rattle.net.specs.Net.{inFlight, zeroMessage, padded, without, placed}
-use Rattle.refusals.specs.Refusing.{namesPlace}
+use Rattle.events.specs.declared.Event.{Event}
+use Rattle.events.specs.Events.{namesPlace}
 use Rattle.state.specs.declared.State.{State}
 use Rattle.state.specs.States.{zeroRank, joined, rankAt, rowAt, placeAt, flying}
 use Rattle.order.proofs.Facts.{InOrderFacts}
@@ -35,41 +36,41 @@ use Rattle.group.specs.Events.{posted, applied, refused, carried, subjec
 -- ---- what an accepted event is about
 
 -- the plan of this event on this state is accepted
-abbrev pub Taken : (ℕ → ℕ) → State → ℕ → ℕ → ℕ → Plan → Type 0
-Taken anc s kind a b p = Accepted anc (s .group .n) (s .group .dead) (s .group .count) kind a b (placeAt s a) (subjectOf s kind a) (rankAt s (subjectOf s kind a)) (rowAt s (subjectOf s kind a)) p
+abbrev pub Taken : (ℕ → ℕ) → State → Event → Plan → Type 0
+Taken anc s ev p = Accepted anc (s .group .n) (s .group .dead) (s .group .count) ev (placeAt s (ev .a)) (subjectOf s ev) (rankAt s (subjectOf s ev)) (rowAt s (subjectOf s ev)) p
 
-pub plan-taken : (anc : ℕ → ℕ) (s : State) (kind a b : ℕ) (p : Plan) → p ≡ planOf anc s kind a b → p .answer ≡ 0 → Taken anc s kind a b p
+pub plan-taken : (anc : ℕ → ℕ) (s : State) (ev : Event) (p : Plan) → p ≡ planOf anc s ev → p .answer ≡ 0 → Taken anc s ev p
 unfolding planOf
-plan-taken anc s kind a b p e z = planned-accepted anc (s .group .n) (s .group .dead) (s .group .count) kind a b (placeAt s a) (subjectOf s kind a) (rankAt s (subjectOf s kind a)) (rowAt s (subjectOf s kind a)) p e z
+plan-taken anc s ev p e z = planned-accepted anc (s .group .n) (s .group .dead) (s .group .count) ev (placeAt s (ev .a)) (subjectOf s ev) (rankAt s (subjectOf s ev)) (rowAt s (subjectOf s ev)) p e z
 
-pub step-plan : (anc : ℕ → ℕ) (s : State) (kind a b : ℕ) → stepped anc s kind a b .answer ≡ 0 → planOf anc s kind a b .answer ≡ 0
+pub step-plan : (anc : ℕ → ℕ) (s : State) (ev : Event) → stepped anc s ev .answer ≡ 0 → planOf anc s ev .answer ≡ 0
 unfolding stepped carried refused
-step-plan anc s kind a b e = ⊎-elim (λ (t : eqb (planOf anc s kind a b .answer) 0 ≡ true). eqb-true (planOf anc s kind a b .answer) 0 t) (λ (t : eqb (planOf anc s kind a b .answer) 0 ≡ false). rw t at e) (passes-or-fails (eqb (planOf anc s kind a b .answer) 0))
+step-plan anc s ev e = ⊎-elim (λ (t : eqb (planOf anc s ev .answer) 0 ≡ true). eqb-true (planOf anc s ev .answer) 0 t) (λ (t : eqb (planOf anc s ev .answer) 0 ≡ false). rw t at e) (passes-or-fails (eqb (planOf anc s ev .answer) 0))
 
 -- a refused event leaves the state as it was
-pub step-stays : (anc : ℕ → ℕ) (s : State) (kind a b : ℕ) → (stepped anc s kind a b .answer ≡ 0 → ⊥) → stepped anc s kind a b .state ≡ s
+pub step-stays : (anc : ℕ → ℕ) (s : State) (ev : Event) → (stepped anc s ev .answer ≡ 0 → ⊥) → stepped anc s ev .state ≡ s
 unfolding stepped carried refused
-step-stays anc s kind a b d = go (passes-or-fails (eqb (planOf anc s kind a b .answer) 0))
+step-stays anc s ev d = go (passes-or-fails (eqb (planOf anc s ev .answer) 0))
   where
-    go : (eqb (planOf anc s kind a b .answer) 0 ≡ true) ⊎ (eqb (planOf anc s kind a b .answer) 0 ≡ false) → stepped anc s kind a b .state ≡ s
+    go : (eqb (planOf anc s ev .answer) 0 ≡ true) ⊎ (eqb (planOf anc s ev .answer) 0 ≡ false) → stepped anc s ev .state ≡ s
     go (inl t) = absurd (d (rw t))
     go (inr t) = rw t
 
 -- an accepted step carries its plan out
-pub step-applied : (anc : ℕ → ℕ) (s : State) (kind a b : ℕ) → stepped anc s kind a b .answer ≡ 0 → stepped anc s kind a b .state ≡ applied s a (subjectOf s kind a) (planOf anc s kind a b)
+pub step-applied : (anc : ℕ → ℕ) (s : State) (ev : Event) → stepped anc s ev .answer ≡ 0 → stepped anc s ev .state ≡ applied s (ev .a) (subjectOf s ev) (planOf anc s ev)
 unfolding stepped carried
-step-applied anc s kind a b z = rw (eq-eqb (planOf anc s kind a b .answer) 0 (step-plan anc s kind a b z))
+step-applied anc s ev z = rw (eq-eqb (planOf anc s ev .answer) 0 (step-plan anc s ev z))
 
-pub step-taken : (anc : ℕ → ℕ) (s : State) (kind a b : ℕ) → stepped anc s kind a b .answer ≡ 0 → Taken anc s kind a b (planOf anc s kind a b)
-step-taken anc s kind a b e = plan-taken anc s kind a b (planOf anc s kind a b) refl (step-plan anc s kind a b e)
+pub step-taken : (anc : ℕ → ℕ) (s : State) (ev : Event) → stepped anc s ev .answer ≡ 0 → Taken anc s ev (planOf anc s ev)
+step-taken anc s ev e = plan-taken anc s ev (planOf anc s ev) refl (step-plan anc s ev e)
 
-pub subject-named : (s : State) (kind a : ℕ) → namesPlace kind ≡ false → a < s .group .n → subjectOf s kind a ≡ a
+pub subject-named : (s : State) (ev : Event) → namesPlace (ev .kind) ≡ false → ev .a < s .group .n → subjectOf s ev ≡ ev .a
 unfolding subjectOf
-subject-named s kind a t l = sym (Planning.subject-named (s .group .n) kind a (placeAt s a) (namesPlace kind) refl t l)
+subject-named s ev t l = sym (Planning.subject-named (s .group .n) ev (placeAt s (ev .a)) (namesPlace (ev .kind)) refl t l)
 
-pub subject-receives : (s : State) (kind a : ℕ) → namesPlace kind ≡ true → subjectOf s kind a ≡ placeAt s a .to
+pub subject-receives : (s : State) (ev : Event) → namesPlace (ev .kind) ≡ true → subjectOf s ev ≡ placeAt s (ev .a) .to
 unfolding subjectOf
-subject-receives s kind a t = sym (Planning.subject-receiver (s .group .n) kind a (placeAt s a) (namesPlace kind) refl t)
+subject-receives s ev t = sym (Planning.subject-receiver (s .group .n) ev (placeAt s (ev .a)) (namesPlace (ev .kind)) refl t)
 
 -- ---- what a state in order gives
 
@@ -85,30 +86,30 @@ module _ (anc : ℕ → ℕ) (s : State) (f : InOrderFacts anc s) where
       nobody l (inl b) = zero-ends (placeAt s i) (f .vacant i l b)
       nobody l (inr b) = zero-ends (placeAt s i) (List·getD-eq-default (s .group .net) zeroMessage (let h = f .shaped .net-long in let g : length (s .group .net) ≤ i = omega arith in g))
 
-  pub subject-in : (kind a : ℕ) → subjectOf s kind a < s .group .n
+  pub subject-in : (ev : Event) → subjectOf s ev < s .group .n
   unfolding subjectOf
-  subject-in kind a = Planning.subject-in (s .group .n) kind a (placeAt s a) (f .size-low) (ends-in a .1)
+  subject-in ev = Planning.subject-in (s .group .n) ev (placeAt s (ev .a)) (f .size-low) (ends-in (ev .a) .1)
 
-pub subject-below : (s : State) (kind a : ℕ) (m : Message) (me : ℕ) → InOrder flat s → m ≡ getD (s .group .net) a zeroMessage → me ≡ subject (s .group .n) kind a m → me < 64
+pub subject-below : (s : State) (ev : Event) (m : Message) (me : ℕ) → InOrder flat s → m ≡ getD (s .group .net) (ev .a) zeroMessage → me ≡ subject (s .group .n) ev m → me < 64
 unfolding subjectOf
-subject-below s kind a m me o e g =
+subject-below s ev m me o e g =
     let f = in-order-facts flat s o in
-    let l : subjectOf s kind a < s .group .n = subject-in flat s f kind a in
-    let h : me ≡ subjectOf s kind a = g ∙ ap (subject (s .group .n) kind a) e in
+    let l : subjectOf s ev < s .group .n = subject-in flat s f ev in
+    let h : me ≡ subjectOf s ev = g ∙ ap (subject (s .group .n) ev) e in
     omega (arith, f .size-high)
 
-pub step-ready : (s : State) (kind a : ℕ) (m : Message) (me : ℕ) (t : List (List ℕ)) → InOrder flat s → m ≡ getD (s .group .net) a zeroMessage → me ≡ subject (s .group .n) kind a m → t ≡ s .tables
+pub step-ready : (s : State) (ev : Event) (m : Message) (me : ℕ) (t : List (List ℕ)) → InOrder flat s → m ≡ getD (s .group .net) (ev .a) zeroMessage → me ≡ subject (s .group .n) ev m → t ≡ s .tables
     → FreshSubject flat (s .group .n) m me (getD (s .group .ranks) me zeroRank) (getD t me [])
 unfolding subjectOf
-step-ready s kind a m me t o e g h =
+step-ready s ev m me t o e g h =
     let f = in-order-facts flat s o in
-    let h′ : me ≡ subjectOf s kind a = g ∙ ap (subject (s .group .n) kind a) e in
-    let l : me < s .group .n = subst (λ (x : ℕ). x < s .group .n) (sym h′) (subject-in flat s f kind a) in
+    let h′ : me ≡ subjectOf s ev = g ∙ ap (subject (s .group .n) ev) e in
+    let l : me < s .group .n = subst (λ (x : ℕ). x < s .group .n) (sym h′) (subject-in flat s f ev) in
     let r = f .member me l in
     record {
       fresh-row = record { size = f .size-high; own = l; table = ap (λ (x : List (List ℕ)). getD x me []) h ∙ r .table };
       awaits = r .in-order .to-settle .awaits;
-      sender = subst (λ (x : Message). x .from < s .group .n) (sym e) (ends-in flat s f a .0);
+      sender = subst (λ (x : Message). x .from < s .group .n) (sym e) (ends-in flat s f (ev .a) .0);
     }
 
 -- ---- what a state in order gives the list
@@ -121,26 +122,26 @@ step-count s o = in-order-facts flat s o .count-le
 
 -- ---- what comes of it
 
-pub plan-is : (s : State) (kind a b : ℕ) (m : Message) (me : ℕ) (t : List (List ℕ)) (p : Plan) → m ≡ getD (s .group .net) a zeroMessage → me ≡ subject (s .group .n) kind a m → t ≡ s .tables
-    → p ≡ planned flat (s .group .n) (s .group .dead) (s .group .count) kind a b m me (getD (s .group .ranks) me zeroRank) (getD t me []) → p ≡ planOf flat s kind a b
+pub plan-is : (s : State) (ev : Event) (m : Message) (me : ℕ) (t : List (List ℕ)) (p : Plan) → m ≡ getD (s .group .net) (ev .a) zeroMessage → me ≡ subject (s .group .n) ev m → t ≡ s .tables
+    → p ≡ planned flat (s .group .n) (s .group .dead) (s .group .count) ev m me (getD (s .group .ranks) me zeroRank) (getD t me []) → p ≡ planOf flat s ev
 unfolding planOf subjectOf
-plan-is s kind a b m me t p e g h q = q ∙ rw (h, g, e)
+plan-is s ev m me t p e g h q = q ∙ rw (h, g, e)
 
-pub me-is : (s : State) (kind a : ℕ) (m : Message) (me : ℕ) → m ≡ getD (s .group .net) a zeroMessage → me ≡ subject (s .group .n) kind a m → me ≡ subjectOf s kind a
+pub me-is : (s : State) (ev : Event) (m : Message) (me : ℕ) → m ≡ getD (s .group .net) (ev .a) zeroMessage → me ≡ subject (s .group .n) ev m → me ≡ subjectOf s ev
 unfolding subjectOf
-me-is s kind a m me e g = g ∙ ap (subject (s .group .n) kind a) e
+me-is s ev m me e g = g ∙ ap (subject (s .group .n) ev) e
 
 -- a plan that is accepted can be carried out
-pub step-carriable : (s : State) (kind a b : ℕ) (p : Plan) (me : ℕ) → InOrder flat s → p ≡ planOf flat s kind a b → p .answer ≡ 0 → me ≡ subjectOf s kind a → Carriable s a me p
-step-carriable s kind a b p me o e z g =
+pub step-carriable : (s : State) (ev : Event) (p : Plan) (me : ℕ) → InOrder flat s → p ≡ planOf flat s ev → p .answer ≡ 0 → me ≡ subjectOf s ev → Carriable s (ev .a) me p
+step-carriable s ev p me o e z g =
     let f = in-order-facts flat s o in
-    let x = plan-taken flat s kind a b p e z in
+    let x = plan-taken flat s ev p e z in
     record {
       held = places-held flat s f;
       count-le = f .count-le;
-      there = λ t. clean-place _ _ _ _ _ _ _ _ (x .clean) (sym (x .leaves-is) ∙ t);
+      there = λ t. clean-place _ _ _ _ _ _ (x .clean) (sym (x .leaves-is) ∙ t);
       room = x .room;
-      own = omega (arith, subject-in flat s f kind a, f .size-high);
+      own = omega (arith, subject-in flat s f ev, f .size-high);
     }
 
 -- the list after a plan
@@ -155,28 +156,28 @@ pub carry-applied : (s : State) (place me : ℕ) (p : Plan) (j : Joined) (d : �
 unfolding applied
 carry-applied s place me p j d t u et ej ed eu = eu ∙ rw (ej, ed, et)
 
-pub step-refuses : (s : State) (kind a b : ℕ) (p : Plan) (r : Stepped) → p ≡ planOf flat s kind a b → (p .answer ≡ 0 → ⊥) → r ≡ refused (p .answer) s → r ≡ stepped flat s kind a b
+pub step-refuses : (s : State) (ev : Event) (p : Plan) (r : Stepped) → p ≡ planOf flat s ev → (p .answer ≡ 0 → ⊥) → r ≡ refused (p .answer) s → r ≡ stepped flat s ev
 unfolding stepped carried
-step-refuses s kind a b p r e z f = f ∙ rw (← e, ne-eqb (p .answer) 0 z)
+step-refuses s ev p r e z f = f ∙ rw (← e, ne-eqb (p .answer) 0 z)
 
-pub step-carries : (s : State) (kind a b : ℕ) (p : Plan) (me x y : ℕ) (u : State) → p ≡ planOf flat s kind a b → p .answer ≡ 0 → me ≡ subjectOf s kind a
-    → x ≡ count (has (p .acted .first .to)) 64 → y ≡ count (has (p .acted .second .to)) 64 → u ≡ applied s a me p
-    → _≡_ {A = Stepped} (record { answer = 0; sent = x + y; moved = p .acted .moved; state = u }) (stepped flat s kind a b)
+pub step-carries : (s : State) (ev : Event) (p : Plan) (me x y : ℕ) (u : State) → p ≡ planOf flat s ev → p .answer ≡ 0 → me ≡ subjectOf s ev
+    → x ≡ count (has (p .acted .first .to)) 64 → y ≡ count (has (p .acted .second .to)) 64 → u ≡ applied s (ev .a) me p
+    → _≡_ {A = Stepped} (record { answer = 0; sent = x + y; moved = p .acted .moved; state = u }) (stepped flat s ev)
 unfolding stepped carried
-step-carries s kind a b p me x y u e z g ex ey eu = rw (← e, ← g, eq-eqb (p .answer) 0 z, eu, ex, ey)
+step-carries s ev p me x y u e z g ex ey eu = rw (← e, ← g, eq-eqb (p .answer) 0 z, eu, ex, ey)
 
 -- ---- the same from the parts of a state
 
-pub step-refused : (s : State) (kind a b : ℕ) (m : Message) (me : ℕ) (t : List (List ℕ)) (p : Plan) → m ≡ getD (s .group .net) a zeroMessage → me ≡ subject (s .group .n) kind a m → t ≡ s .tables
-    → p ≡ planned flat (s .group .n) (s .group .dead) (s .group .count) kind a b m me (getD (s .group .ranks) me zeroRank) (getD t me []) → (p .answer ≡ 0 → ⊥)
-    → _≡_ {A = Stepped} (record { answer = p .answer; sent = 0; moved = nobody; state = s }) (stepped flat s kind a b)
+pub step-refused : (s : State) (ev : Event) (m : Message) (me : ℕ) (t : List (List ℕ)) (p : Plan) → m ≡ getD (s .group .net) (ev .a) zeroMessage → me ≡ subject (s .group .n) ev m → t ≡ s .tables
+    → p ≡ planned flat (s .group .n) (s .group .dead) (s .group .count) ev m me (getD (s .group .ranks) me zeroRank) (getD t me []) → (p .answer ≡ 0 → ⊥)
+    → _≡_ {A = Stepped} (record { answer = p .answer; sent = 0; moved = nobody; state = s }) (stepped flat s ev)
 unfolding refused
-step-refused s kind a b m me t p e g h q z = step-refuses s kind a b p (refused (p .answer) s) (plan-is s kind a b m me t p e g h q) z refl
+step-refused s ev m me t p e g h q z = step-refuses s ev p (refused (p .answer) s) (plan-is s ev m me t p e g h q) z refl
 
-pub step-accepted : (s : State) (kind a b : ℕ) (m : Message) (me : ℕ) (t : List (List ℕ)) (p : Plan) (j : Joined) (d x y : ℕ) (u : State) → m ≡ getD (s .group .net) a zeroMessage → me ≡ subject (s .group .n) kind a m → t ≡ s .tables
-    → p ≡ planned flat (s .group .n) (s .group .dead) (s .group .count) kind a b m me (getD (s .group .ranks) me zeroRank) (getD t me []) → p .answer ≡ 0
-    → j ≡ placed (posted (flying s) a me p) → d ≡ cond (p .dies) (add (s .group .dead) me) (s .group .dead) → x ≡ count (has (p .acted .first .to)) 64 → y ≡ count (has (p .acted .second .to)) 64
+pub step-accepted : (s : State) (ev : Event) (m : Message) (me : ℕ) (t : List (List ℕ)) (p : Plan) (j : Joined) (d x y : ℕ) (u : State) → m ≡ getD (s .group .net) (ev .a) zeroMessage → me ≡ subject (s .group .n) ev m → t ≡ s .tables
+    → p ≡ planned flat (s .group .n) (s .group .dead) (s .group .count) ev m me (getD (s .group .ranks) me zeroRank) (getD t me []) → p .answer ≡ 0
+    → j ≡ placed (posted (flying s) (ev .a) me p) → d ≡ cond (p .dies) (add (s .group .dead) me) (s .group .dead) → x ≡ count (has (p .acted .first .to)) 64 → y ≡ count (has (p .acted .second .to)) 64
     → u ≡ joined (record { n = s .group .n; dead = d; count = j .count; ranks = set (s .group .ranks) me (p .acted .rank); net = j .net }) (set t me (p .acted .row))
-    → _≡_ {A = Stepped} (record { answer = 0; sent = x + y; moved = p .acted .moved; state = u }) (stepped flat s kind a b)
-step-accepted s kind a b m me t p j d x y u em eg et ep z ej ed ex ey eu =
-    step-carries s kind a b p me x y u (plan-is s kind a b m me t p em eg et ep) z (me-is s kind a m me em eg) ex ey (carry-applied s a me p j d t u et ej ed eu)
+    → _≡_ {A = Stepped} (record { answer = 0; sent = x + y; moved = p .acted .moved; state = u }) (stepped flat s ev)
+step-accepted s ev m me t p j d x y u em eg et ep z ej ed ex ey eu =
+    step-carries s ev p me x y u (plan-is s ev m me t p em eg et ep) z (me-is s ev m me em eg) ex ey (carry-applied s (ev .a) me p j d t u et ej ed eu)

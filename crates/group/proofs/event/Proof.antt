@@ -26,7 +26,7 @@ refused-requires-2 c κs = search needs
 returns-2 : tie.Need-returns-2
 returns-2 c =
     let test = c .before .before in
-    event-disordered _ _ _ _ _ _ _ (test .before .before .wrong-size .ensures) (test .before .if1 .left) (test .in-order .ensures .0) (c .before .if2 .taken) (c .refused2 .ensures)
+    event-disordered _ _ _ _ _ (test .before .before .wrong-size .ensures) (test .before .if1 .left) (test .in-order .ensures .0) (c .before .if2 .taken) (c .refused2 .ensures)
 
 step-requires : tie.Need-step-requires
 step-requires c κs = in-order-from _ _ (c .before .in-order .ensures .0) (c .if2 .left) (c .before .in-order .ensures .1)
@@ -34,7 +34,7 @@ step-requires c κs = in-order-from _ _ (c .before .in-order .ensures .0) (c .if
 returns-3 : tie.Need-returns-3
 returns-3 c =
     let test = c .before .before in
-    event-steps _ _ _ _ _ _ _ (test .before .before .wrong-size .ensures) (test .before .if1 .left) (test .in-order .ensures .0) (c .before .if2 .left) (c .step .ensures)
+    event-steps _ _ _ _ _ (test .before .before .wrong-size .ensures) (test .before .if1 .left) (test .in-order .ensures .0) (c .before .if2 .left) (c .step .ensures)
 
 pub event-spec : {M : Type 1} → statement M
 event-spec =

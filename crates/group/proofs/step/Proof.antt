@@ -16,17 +16,17 @@ returns c = search step-refuses
 size-requires : tie.Need-size-requires
 size-requires c κs = search needs
 
-cast-t12 : tie.Need-cast-t12
-cast-t12 c = search needs
+cast-t10 : tie.Need-cast-t10
+cast-t10 c = search needs
 
 size-requires-2 : tie.Need-size-requires-2
 size-requires-2 c κs = search needs
 
-cast-t14 : tie.Need-cast-t14
-cast-t14 c = search needs
+cast-t12 : tie.Need-cast-t12
+cast-t12 c = search needs
 
-add-t15 : tie.Need-add-t15
-add-t15 c = search needs
+add-t13 : tie.Need-add-t13
+add-t13 c = search needs
 
 subject-of-requires : tie.Need-subject-of-requires
 subject-of-requires c κs = search needs
@@ -45,10 +45,10 @@ step-spec =
     refused-requires
     returns
     size-requires
-    cast-t12
+    cast-t10
     size-requires-2
-    cast-t14
-    add-t15
+    cast-t12
+    add-t13
     subject-of-requires
     carry-requires
     returns-2)

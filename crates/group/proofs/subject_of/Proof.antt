@@ -11,7 +11,7 @@ subject-requires : tie.Need-subject-requires
 subject-requires c κs = search needs
 
 returns : tie.Need-returns
-returns c = me-is _ _ _ _ _ (c .before .at .ensures) (c .subject .ensures)
+returns c = me-is _ _ _ _ (c .before .at .ensures) (c .subject .ensures)
 
 pub subject-of-spec : {M : Type 1} → statement M
 subject-of-spec = tie.close (tie.spec at-requires subject-requires returns)

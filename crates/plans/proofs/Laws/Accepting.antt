@@ -15,78 +15,80 @@ use Rattle.rank.specs.declared.Message.{Message}
 use Rattle.rank.specs.declared.Acted.{Acted}
 use Rattle.rank.proofs.Laws.Letters.{silent-size}
 use Rattle.rank.specs.Sends.{size}
-use Rattle.refusals.specs.Refusing.{namesPlace, refusal}
+use Rattle.events.specs.declared.Event.{Event}
+use Rattle.events.specs.Events.{namesPlace}
+use Rattle.refusals.specs.Refusing.{refusal}
 use Rattle.refusals.proofs.Laws.Refusing.{Clean, refusal-none, clean-place}
 use Rattle.plans.specs.declared.Plan.{Plan}
 use Rattle.plans.specs.Plans.{idle, acting, refusing, accepting, afterwards, fitting, planned}
 
 -- ---- what an accepted plan is
 
-pub record Accepted (anc : ℕ → ℕ) (n dead c kind a b : ℕ) (m : Message) (me : ℕ) (r : Rank) (row : List ℕ) (p : Plan) : Type 0 where
-  pub clean : Clean n dead c kind a b r m
-  pub leaves-is : p .leaves ≡ namesPlace kind
-  pub dies-is : p .dies ≡ eqb kind 3
-  pub acted-is : p .acted ≡ acting anc n dead kind b m me r row
+pub record Accepted (anc : ℕ → ℕ) (n dead c : ℕ) (ev : Event) (m : Message) (me : ℕ) (r : Rank) (row : List ℕ) (p : Plan) : Type 0 where
+  pub clean : Clean n dead c ev r m
+  pub leaves-is : p .leaves ≡ namesPlace (ev .kind)
+  pub dies-is : p .dies ≡ eqb (ev .kind) 3
+  pub acted-is : p .acted ≡ acting anc n dead ev m me r row
   pub room : c + size (p .acted .first) + size (p .acted .second) - cond (p .leaves) 1 0 ≤ 128
 
-pub planned-accepted : (anc : ℕ → ℕ) (n dead c kind a b : ℕ) (m : Message) (me : ℕ) (r : Rank) (row : List ℕ) (p : Plan) → p ≡ planned anc n dead c kind a b m me r row → p .answer ≡ 0 → Accepted anc n dead c kind a b m me r row p
+pub planned-accepted : (anc : ℕ → ℕ) (n dead c : ℕ) (ev : Event) (m : Message) (me : ℕ) (r : Rank) (row : List ℕ) (p : Plan) → p ≡ planned anc n dead c ev m me r row → p .answer ≡ 0 → Accepted anc n dead c ev m me r row p
 unfolding planned fitting refusing accepting afterwards
-planned-accepted anc n dead c kind a b m me r row p e z = first (passes-or-fails (eqb (refusal n dead c kind a b r m) 0))
+planned-accepted anc n dead c ev m me r row p e z = first (passes-or-fails (eqb (refusal n dead c ev r m) 0))
   where
     x : Acted
-    x = acting anc n dead kind b m me r row
+    x = acting anc n dead ev m me r row
 
     t : ℕ
-    t = c + size (x .first) + size (x .second) - cond (namesPlace kind) 1 0
+    t = c + size (x .first) + size (x .second) - cond (namesPlace (ev .kind)) 1 0
 
-    second : refusal n dead c kind a b r m ≡ 0 → (ltb 128 t ≡ true) ⊎ (ltb 128 t ≡ false) → Accepted anc n dead c kind a b m me r row p
+    second : refusal n dead c ev r m ≡ 0 → (ltb 128 t ≡ true) ⊎ (ltb 128 t ≡ false) → Accepted anc n dead c ev m me r row p
     second h (inl full) =
         let q : p ≡ refusing 11 r row = e ∙ rw (h, full) in
         absurd (let bad : p .answer ≡ 11 = ap (λ (y : Plan). y .answer) q in omega arith)
     second h (inr free) =
-        let q : p ≡ accepting kind x = e ∙ rw (h, free) in
+        let q : p ≡ accepting ev x = e ∙ rw (h, free) in
         record {
-          clean = refusal-none n dead c kind a b r m h;
+          clean = refusal-none n dead c ev r m h;
           leaves-is = ap (λ (y : Plan). y .leaves) q;
           dies-is = ap (λ (y : Plan). y .dies) q;
           acted-is = ap (λ (y : Plan). y .acted) q;
           room = subst (λ (y : Plan). c + size (y .acted .first) + size (y .acted .second) - cond (y .leaves) 1 0 ≤ 128) (sym q) (ltb-false 128 t free);
         }
 
-    first : (eqb (refusal n dead c kind a b r m) 0 ≡ true) ⊎ (eqb (refusal n dead c kind a b r m) 0 ≡ false) → Accepted anc n dead c kind a b m me r row p
-    first (inl h) = second (eqb-true (refusal n dead c kind a b r m) 0 h) (passes-or-fails (ltb 128 t))
+    first : (eqb (refusal n dead c ev r m) 0 ≡ true) ⊎ (eqb (refusal n dead c ev r m) 0 ≡ false) → Accepted anc n dead c ev m me r row p
+    first (inl h) = second (eqb-true (refusal n dead c ev r m) 0 h) (passes-or-fails (ltb 128 t))
     first (inr h) =
-        let q : p ≡ refusing (refusal n dead c kind a b r m) r row = e ∙ rw h in
-        absurd (eqb-false (refusal n dead c kind a b r m) 0 h (sym (ap (λ (y : Plan). y .answer) q) ∙ z))
+        let q : p ≡ refusing (refusal n dead c ev r m) r row = e ∙ rw h in
+        absurd (eqb-false (refusal n dead c ev r m) 0 h (sym (ap (λ (y : Plan). y .answer) q) ∙ z))
 
 -- A refused plan has its rank do nothing.
-planned-refused : (anc : ℕ → ℕ) (n dead c kind a b : ℕ) (m : Message) (me : ℕ) (r : Rank) (row : List ℕ) (p : Plan) → p ≡ planned anc n dead c kind a b m me r row → (p .answer ≡ 0 → ⊥) → p .acted ≡ idle r row
+planned-refused : (anc : ℕ → ℕ) (n dead c : ℕ) (ev : Event) (m : Message) (me : ℕ) (r : Rank) (row : List ℕ) (p : Plan) → p ≡ planned anc n dead c ev m me r row → (p .answer ≡ 0 → ⊥) → p .acted ≡ idle r row
 unfolding planned fitting refusing accepting
-planned-refused anc n dead c kind a b m me r row p e z = first (passes-or-fails (eqb (refusal n dead c kind a b r m) 0))
+planned-refused anc n dead c ev m me r row p e z = first (passes-or-fails (eqb (refusal n dead c ev r m) 0))
   where
     t : Bool
-    t = ltb 128 (afterwards c kind (acting anc n dead kind b m me r row))
+    t = ltb 128 (afterwards c ev (acting anc n dead ev m me r row))
 
-    second : eqb (refusal n dead c kind a b r m) 0 ≡ true → (t ≡ true) ⊎ (t ≡ false) → p .acted ≡ idle r row
+    second : eqb (refusal n dead c ev r m) 0 ≡ true → (t ≡ true) ⊎ (t ≡ false) → p .acted ≡ idle r row
     second h (inl full) = let q : p ≡ refusing 11 r row = e ∙ rw (h, full) in ap (λ (y : Plan). y .acted) q
     second h (inr free) =
-        let q : p ≡ accepting kind (acting anc n dead kind b m me r row) = e ∙ rw (h, free) in
+        let q : p ≡ accepting ev (acting anc n dead ev m me r row) = e ∙ rw (h, free) in
         absurd (z (ap (λ (y : Plan). y .answer) q))
 
-    first : (eqb (refusal n dead c kind a b r m) 0 ≡ true) ⊎ (eqb (refusal n dead c kind a b r m) 0 ≡ false) → p .acted ≡ idle r row
+    first : (eqb (refusal n dead c ev r m) 0 ≡ true) ⊎ (eqb (refusal n dead c ev r m) 0 ≡ false) → p .acted ≡ idle r row
     first (inl h) = second h (passes-or-fails t)
-    first (inr h) = let q : p ≡ refusing (refusal n dead c kind a b r m) r row = e ∙ rw h in ap (λ (y : Plan). y .acted) q
+    first (inr h) = let q : p ≡ refusing (refusal n dead c ev r m) r row = e ∙ rw h in ap (λ (y : Plan). y .acted) q
 
 -- and sends and moves nothing
-pub refused-quiet : (anc : ℕ → ℕ) (n dead c kind a b : ℕ) (m : Message) (me : ℕ) (r : Rank) (row : List ℕ) (p : Plan) → p ≡ planned anc n dead c kind a b m me r row → (p .answer ≡ 0 → ⊥)
+pub refused-quiet : (anc : ℕ → ℕ) (n dead c : ℕ) (ev : Event) (m : Message) (me : ℕ) (r : Rank) (row : List ℕ) (p : Plan) → p ≡ planned anc n dead c ev m me r row → (p .answer ≡ 0 → ⊥)
     → (count (has (p .acted .first .to)) 64 + count (has (p .acted .second .to)) 64 ≡ 0) × (p .acted .moved ≡ nobody)
-refused-quiet anc n dead c kind a b m me r row p e z = rw (planned-refused anc n dead c kind a b m me r row p e z, silent-size) (refl, refl)
+refused-quiet anc n dead c ev m me r row p e z = rw (planned-refused anc n dead c ev m me r row p e z, silent-size) (refl, refl)
 
-pub step-place : (n dead c kind a b : ℕ) (m : Message) (me : ℕ) (r : Rank) (row : List ℕ) (p : Plan) → p ≡ planned flat n dead c kind a b m me r row → p .answer ≡ 0 → p .leaves ≡ true → a < c
-step-place n dead c kind a b m me r row p e z t =
-    let x = planned-accepted flat n dead c kind a b m me r row p e z in
-    clean-place n dead c kind a b r m (x .clean) (sym (x .leaves-is) ∙ t)
+pub step-place : (n dead c : ℕ) (ev : Event) (m : Message) (me : ℕ) (r : Rank) (row : List ℕ) (p : Plan) → p ≡ planned flat n dead c ev m me r row → p .answer ≡ 0 → p .leaves ≡ true → ev .a < c
+step-place n dead c ev m me r row p e z t =
+    let x = planned-accepted flat n dead c ev m me r row p e z in
+    clean-place n dead c ev r m (x .clean) (sym (x .leaves-is) ∙ t)
 
-pub step-room : (n dead c kind a b : ℕ) (m : Message) (me : ℕ) (r : Rank) (row : List ℕ) (p : Plan) → p ≡ planned flat n dead c kind a b m me r row → p .answer ≡ 0
+pub step-room : (n dead c : ℕ) (ev : Event) (m : Message) (me : ℕ) (r : Rank) (row : List ℕ) (p : Plan) → p ≡ planned flat n dead c ev m me r row → p .answer ≡ 0
     → c + size (p .acted .first) + size (p .acted .second) - cond (p .leaves) 1 0 ≤ 128
-step-room n dead c kind a b m me r row p e z = planned-accepted flat n dead c kind a b m me r row p e z .room
+step-room n dead c ev m me r row p e z = planned-accepted flat n dead c ev m me r row p e z .room

@@ -20,6 +20,7 @@ use Rattle.rank.specs.Rules.{entering, takingUp, takingDown, takingAsk, noticin
 use Rattle.rank.proofs.Facts.{Posted, ActedInOrder, MemberInOrder}
 use Rattle.rank.proofs.Laws.Keeping.{silent-posted, enter-in-order, up-in-order, down-in-order, ask-in-order, notice-in-order}
 use Rattle.net.proofs.Facts.{MessageInOrder}
+use Rattle.events.specs.declared.Event.{Event}
 use Rattle.plans.specs.Plans.{idle, delivered, acting}
 use Rattle.plans.proofs.Laws.Cases.{delivered-by, acting-by}
 
@@ -78,7 +79,7 @@ module _ (anc : ℕ → ℕ) (n dead me : ℕ) (small : n ≤ 64) (own : me < n)
       in-order-outcome anc n dead me (add (r .marks) b) (noticing anc n me b r) (notice-in-order anc n me small own b r (s .in-order) l o)
       (λ j u. ⊎-elim (s .marks-dead j) (λ (q : eqb j b ≡ true). subst (λ (x : ℕ). has dead x ≡ true) (sym (eqb-true j b q)) d) (or-cases (has (r .marks) j) (eqb j b) (sym (has-add (r .marks) b j) ∙ u)))
 
-  pub acting-outcome : (kind b : ℕ) (m : Message) (r : Rank) (row : List ℕ) → MemberInOrder anc n dead me r row → (kind ≡ 1 → r .phase ≡ outside) → (kind ≡ 2 → MessageInOrder n dead m × (m .to ≡ me))
-      → (kind ≡ 4 → (b < n) × (has dead b ≡ true) × (has dead me ≡ false)) → Outcome anc n dead me (acting anc n dead kind b m me r row)
-  acting-outcome kind b m r row s e d t = acting-by anc n dead me m r row (Outcome anc n dead me) kind b (λ k. enters-outcome b r row (e k) s) (λ k. let x = d k in delivered-outcome m r row (x .0) (x .1) s)
-      (λ k. let x = t k in notices-outcome b r row (x .0) (x .1) (x .2) s) (λ x y z. idle-outcome r row s)
+  pub acting-outcome : (ev : Event) (m : Message) (r : Rank) (row : List ℕ) → MemberInOrder anc n dead me r row → (ev .kind ≡ 1 → r .phase ≡ outside) → (ev .kind ≡ 2 → MessageInOrder n dead m × (m .to ≡ me))
+      → (ev .kind ≡ 4 → (ev .b < n) × (has dead (ev .b) ≡ true) × (has dead me ≡ false)) → Outcome anc n dead me (acting anc n dead ev m me r row)
+  acting-outcome ev m r row s e d t = acting-by anc n dead me m r row (Outcome anc n dead me) ev (λ k. enters-outcome (ev .b) r row (e k) s) (λ k. let x = d k in delivered-outcome m r row (x .0) (x .1) s)
+      (λ k. let x = t k in notices-outcome (ev .b) r row (x .0) (x .1) (x .2) s) (λ x y z. idle-outcome r row s)

@@ -14,6 +14,7 @@ use Rattle.rank.specs.declared.Acted.{Acted}
 use Rattle.rank.specs.Words.{up, down}
 use Rattle.rank.specs.Rules.{entering, takingUp, takingDown, takingAsk, noticing}
 use Rattle.rank.proofs.Laws.Cases.{by-test}
+use Rattle.events.specs.declared.Event.{Event}
 use Rattle.plans.specs.Plans.{idle, delivered, acting}
 
 -- the receiver is dead or has marked the sender, and the message is dropped
@@ -48,10 +49,10 @@ module _ (anc : ℕ → ℕ) (n dead me : ℕ) (m : Message) (r : Rank) (row : L
       rest : Acted
       rest = cond (eqb (m .kind) up) (takingUp anc n me (m .from) (m .word) r) (cond (eqb (m .kind) down) (takingDown anc n me (m .word) r) (takingAsk anc n me (m .from) r))
 
-  pub acting-by : (kind b : ℕ) → (kind ≡ 1 → P (entering anc n me b r)) → (kind ≡ 2 → P (delivered anc n dead me m r row)) → (kind ≡ 4 → P (noticing anc n me b r))
-      → ((kind ≡ 1 → ⊥) → (kind ≡ 2 → ⊥) → (kind ≡ 4 → ⊥) → P (idle r row)) → P (acting anc n dead kind b m me r row)
+  pub acting-by : (ev : Event) → (ev .kind ≡ 1 → P (entering anc n me (ev .b) r)) → (ev .kind ≡ 2 → P (delivered anc n dead me m r row)) → (ev .kind ≡ 4 → P (noticing anc n me (ev .b) r))
+      → ((ev .kind ≡ 1 → ⊥) → (ev .kind ≡ 2 → ⊥) → (ev .kind ≡ 4 → ⊥) → P (idle r row)) → P (acting anc n dead ev m me r row)
   unfolding acting
-  acting-by kind b enters delivers notices other =
-      by-test P (eqb kind 1) (entering anc n me b r) (cond (eqb kind 2) (delivered anc n dead me m r row) (cond (eqb kind 4) (noticing anc n me b r) (idle r row))) (λ t. enters (eqb-true kind 1 t))
-      (λ t. by-test P (eqb kind 2) (delivered anc n dead me m r row) (cond (eqb kind 4) (noticing anc n me b r) (idle r row)) (λ u. delivers (eqb-true kind 2 u))
-      (λ u. by-test P (eqb kind 4) (noticing anc n me b r) (idle r row) (λ v. notices (eqb-true kind 4 v)) (λ v. other (eqb-false kind 1 t) (eqb-false kind 2 u) (eqb-false kind 4 v))))
+  acting-by ev enters delivers notices other =
+      by-test P (eqb (ev .kind) 1) (entering anc n me (ev .b) r) (cond (eqb (ev .kind) 2) (delivered anc n dead me m r row) (cond (eqb (ev .kind) 4) (noticing anc n me (ev .b) r) (idle r row))) (λ t. enters (eqb-true (ev .kind) 1 t))
+      (λ t. by-test P (eqb (ev .kind) 2) (delivered anc n dead me m r row) (cond (eqb (ev .kind) 4) (noticing anc n me (ev .b) r) (idle r row)) (λ u. delivers (eqb-true (ev .kind) 2 u))
+      (λ u. by-test P (eqb (ev .kind) 4) (noticing anc n me (ev .b) r) (idle r row) (λ v. notices (eqb-true (ev .kind) 4 v)) (λ v. other (eqb-false (ev .kind) 1 t) (eqb-false (ev .kind) 2 u) (eqb-false (ev .kind) 4 v))))

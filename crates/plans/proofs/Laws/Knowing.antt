@@ -15,6 +15,7 @@ use Rattle.rank.specs.declared.Acted.{Acted}
 use Rattle.rank.specs.Words.{up, down, ask}
 use Rattle.rank.specs.Rules.{takingAsk}
 use Rattle.rank.proofs.Laws.Knowing.{enter-marks, up-marks, down-marks, ask-marks, notice-marks, enter-moved, up-moved, down-moved, ask-moved, notice-moved}
+use Rattle.events.specs.declared.Event.{Event}
 use Rattle.plans.specs.Plans.{delivered, acting}
 use Rattle.plans.proofs.Laws.Cases.{Dropped, Undropped, delivered-by, acting-by}
 
@@ -22,39 +23,39 @@ use Rattle.plans.proofs.Laws.Cases.{Dropped, Undropped, delivered-by, a
 abbrev Calm : Rank → Acted → Type 0
 Calm r a = (a .rank .marks ≡ r .marks) × (a .moved ≡ nobody)
 
-module _ (anc : ℕ → ℕ) (n dead b : ℕ) (m : Message) (me : ℕ) (r : Rank) (row : List ℕ) where
+module _ (anc : ℕ → ℕ) (n dead : ℕ) (ev : Event) (m : Message) (me : ℕ) (r : Rank) (row : List ℕ) where
   -- ---- a notice
 
-  acting-notice : (P : Acted → Type 0) → P (Rattle.rank.specs.Rules.noticing anc n me b r) → P (acting anc n dead 4 b m me r row)
-  acting-notice P h = acting-by anc n dead me m r row P 4 b (λ e. absurd (omega arith)) (λ e. absurd (omega arith)) (λ e. h) (λ x y z. absurd (z refl))
+  acting-notice : (P : Acted → Type 0) → ev .kind ≡ 4 → P (Rattle.rank.specs.Rules.noticing anc n me (ev .b) r) → P (acting anc n dead ev m me r row)
+  acting-notice P k h = acting-by anc n dead me m r row P ev (λ e. absurd (omega arith)) (λ e. absurd (omega arith)) (λ e. h) (λ x y z. absurd (z k))
 
-  pub notice-knows : acting anc n dead 4 b m me r row .rank .marks ≡ add (r .marks) b
-  notice-knows = acting-notice (λ a. a .rank .marks ≡ add (r .marks) b) (notice-marks anc n me b r)
+  pub notice-knows : ev .kind ≡ 4 → acting anc n dead ev m me r row .rank .marks ≡ add (r .marks) (ev .b)
+  notice-knows k = acting-notice (λ x. x .rank .marks ≡ add (r .marks) (ev .b)) k (notice-marks anc n me (ev .b) r)
 
-  pub notice-moves : acting anc n dead 4 b m me r row .moved ≡ moved anc n (r .marks) b
-  notice-moves = acting-notice (λ a. a .moved ≡ moved anc n (r .marks) b) (notice-moved anc n me b r)
+  pub notice-moves : ev .kind ≡ 4 → acting anc n dead ev m me r row .moved ≡ moved anc n (r .marks) (ev .b)
+  notice-moves k = acting-notice (λ x. x .moved ≡ moved anc n (r .marks) (ev .b)) k (notice-moved anc n me (ev .b) r)
 
   -- ---- a delivery
 
-  acting-delivery : (P : Acted → Type 0) → P (delivered anc n dead me m r row) → P (acting anc n dead 2 b m me r row)
-  acting-delivery P h = acting-by anc n dead me m r row P 2 b (λ e. absurd (omega arith)) (λ e. h) (λ e. absurd (omega arith)) (λ x y z. absurd (y refl))
+  acting-delivery : (P : Acted → Type 0) → ev .kind ≡ 2 → P (delivered anc n dead me m r row) → P (acting anc n dead ev m me r row)
+  acting-delivery P k h = acting-by anc n dead me m r row P ev (λ e. absurd (omega arith)) (λ e. h) (λ e. absurd (omega arith)) (λ x y z. absurd (y k))
 
   kept : Undropped dead me m r → Dropped dead me m r → ⊥
   kept t (inl d) = clash (has dead me) d (t .lives)
   kept t (inr d) = clash (has (r .marks) (m .from)) d (t .unmarked)
 
-  acting-taken : (P : Acted → Type 0) → m .kind ≡ ask → Undropped dead me m r → P (takingAsk anc n me (m .from) r) → P (acting anc n dead 2 b m me r row)
-  acting-taken P k t h = acting-delivery P (delivered-by anc n dead me m r row P (λ d. absurd (kept t d)) (λ x e. absurd (omega arith)) (λ x e. absurd (omega arith)) (λ x u d. h))
+  acting-taken : (P : Acted → Type 0) → ev .kind ≡ 2 → m .kind ≡ ask → Undropped dead me m r → P (takingAsk anc n me (m .from) r) → P (acting anc n dead ev m me r row)
+  acting-taken P d k t h = acting-delivery P d (delivered-by anc n dead me m r row P (λ d. absurd (kept t d)) (λ x e. absurd (omega arith)) (λ x e. absurd (omega arith)) (λ x u d. h))
 
-  pub ask-knows : m .kind ≡ ask → Undropped dead me m r → acting anc n dead 2 b m me r row .rank .marks ≡ union (r .marks) (below (m .from))
-  ask-knows k t = acting-taken (λ a. a .rank .marks ≡ union (r .marks) (below (m .from))) k t (ask-marks anc n me (m .from) r)
+  pub ask-knows : ev .kind ≡ 2 → m .kind ≡ ask → Undropped dead me m r → acting anc n dead ev m me r row .rank .marks ≡ union (r .marks) (below (m .from))
+  ask-knows d k t = acting-taken (λ x. x .rank .marks ≡ union (r .marks) (below (m .from))) d k t (ask-marks anc n me (m .from) r)
 
-  pub ask-moves : m .kind ≡ ask → Undropped dead me m r → acting anc n dead 2 b m me r row .moved ≡ movedBelow anc n (r .marks) (m .from)
-  ask-moves k t = acting-taken (λ a. a .moved ≡ movedBelow anc n (r .marks) (m .from)) k t (ask-moved anc n me (m .from) r)
+  pub ask-moves : ev .kind ≡ 2 → m .kind ≡ ask → Undropped dead me m r → acting anc n dead ev m me r row .moved ≡ movedBelow anc n (r .marks) (m .from)
+  ask-moves d k t = acting-taken (λ x. x .moved ≡ movedBelow anc n (r .marks) (m .from)) d k t (ask-moved anc n me (m .from) r)
 
   -- a message to a dead rank, or from a sender that the receiver has marked
-  pub dropped-calm : Dropped dead me m r → Calm r (acting anc n dead 2 b m me r row)
-  dropped-calm d = acting-delivery (Calm r) (delivered-by anc n dead me m r row (Calm r) (λ x. (refl, refl)) (λ t e. absurd (kept t d)) (λ t e. absurd (kept t d)) (λ t u v. absurd (kept t d)))
+  pub dropped-calm : ev .kind ≡ 2 → Dropped dead me m r → Calm r (acting anc n dead ev m me r row)
+  dropped-calm k d = acting-delivery (Calm r) k (delivered-by anc n dead me m r row (Calm r) (λ x. (refl, refl)) (λ t e. absurd (kept t d)) (λ t e. absurd (kept t d)) (λ t u v. absurd (kept t d)))
 
   delivered-calm : (m .kind ≡ up) ⊎ (m .kind ≡ down) → Calm r (delivered anc n dead me m r row)
   delivered-calm k = delivered-by anc n dead me m r row (Calm r) (λ x. (refl, refl)) (λ t e. (up-marks anc n me (m .from) (m .word) r, up-moved anc n me (m .from) (m .word) r)) (λ t e. (down-marks anc n me (m .word) r, down-moved anc n me (m .word) r))
@@ -62,5 +63,5 @@ module _ (anc : ℕ → ℕ) (n dead b : ℕ) (m : Message) (me : ℕ) (r : Rank
 
   -- ---- any other event
 
-  pub other-calm : (kind : ℕ) → (kind ≡ 4 → ⊥) → (kind ≡ 2 → (m .kind ≡ up) ⊎ (m .kind ≡ down)) → Calm r (acting anc n dead kind b m me r row)
-  other-calm kind h k = acting-by anc n dead me m r row (Calm r) kind b (λ e. (enter-marks anc n me b r, enter-moved anc n me b r)) (λ e. delivered-calm (k e)) (λ e. absurd (h e)) (λ x y z. (refl, refl))
+  pub other-calm : (ev .kind ≡ 4 → ⊥) → (ev .kind ≡ 2 → (m .kind ≡ up) ⊎ (m .kind ≡ down)) → Calm r (acting anc n dead ev m me r row)
+  other-calm h k = acting-by anc n dead me m r row (Calm r) ev (λ e. (enter-marks anc n me (ev .b) r, enter-moved anc n me (ev .b) r)) (λ e. delivered-calm (k e)) (λ e. absurd (h e)) (λ x y z. (refl, refl))

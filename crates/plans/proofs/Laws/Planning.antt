@@ -13,33 +13,35 @@ use Rattle.rank.specs.declared.Message.{Message}
 use Rattle.rank.specs.declared.Acted.{Acted}
 use Rattle.rank.specs.Words.{up, down}
 use Rattle.rank.specs.Rules.{entering, takingUp, takingDown, takingAsk, noticing}
-use Rattle.refusals.specs.Refusing.{namesPlace, refusal}
+use Rattle.events.specs.declared.Event.{Event}
+use Rattle.events.specs.Events.{namesPlace}
+use Rattle.refusals.specs.Refusing.{refusal}
 use Rattle.plans.specs.declared.Plan.{Plan}
 use Rattle.plans.specs.Plans.{idle, subject, delivered, acting, refusing, accepting, afterwards, fitting, planned}
 
 -- ---- the subject
 
-pub subject-receiver : (n kind a : ℕ) (m : Message) (t : Bool) → t ≡ namesPlace kind → t ≡ true → m .to ≡ subject n kind a m
+pub subject-receiver : (n : ℕ) (ev : Event) (m : Message) (t : Bool) → t ≡ namesPlace (ev .kind) → t ≡ true → m .to ≡ subject n ev m
 unfolding subject
-subject-receiver n kind a m t e f = rw (sym e ∙ f)
+subject-receiver n ev m t e f = rw (sym e ∙ f)
 
-pub subject-named : (n kind a : ℕ) (m : Message) (t : Bool) → t ≡ namesPlace kind → t ≡ false → a < n → a ≡ subject n kind a m
+pub subject-named : (n : ℕ) (ev : Event) (m : Message) (t : Bool) → t ≡ namesPlace (ev .kind) → t ≡ false → ev .a < n → ev .a ≡ subject n ev m
 unfolding subject
-subject-named n kind a m t e f l = rw (sym e ∙ f, lt-ltb a n l)
+subject-named n ev m t e f l = rw (sym e ∙ f, lt-ltb (ev .a) n l)
 
-pub subject-nobody : (n kind a : ℕ) (m : Message) (t : Bool) → t ≡ namesPlace kind → t ≡ false → n ≤ a → 0 ≡ subject n kind a m
+pub subject-nobody : (n : ℕ) (ev : Event) (m : Message) (t : Bool) → t ≡ namesPlace (ev .kind) → t ≡ false → n ≤ ev .a → 0 ≡ subject n ev m
 unfolding subject
-subject-nobody n kind a m t e f l = rw (sym e ∙ f, le-ltb a n l)
+subject-nobody n ev m t e f l = rw (sym e ∙ f, le-ltb (ev .a) n l)
 
 -- it is a rank of the group
-pub subject-in : (n kind a : ℕ) (m : Message) → 0 < n → m .to < n → subject n kind a m < n
+pub subject-in : (n : ℕ) (ev : Event) (m : Message) → 0 < n → m .to < n → subject n ev m < n
 unfolding subject
-subject-in n kind a m low inside = go (namesPlace kind) (lt-or-le a n)
+subject-in n ev m low inside = go (namesPlace (ev .kind)) (lt-or-le (ev .a) n)
   where
-    go : (t : Bool) → (a < n) ⊎ (n ≤ a) → cond t (m .to) (cond (ltb a n) a 0) < n
+    go : (t : Bool) → (ev .a < n) ⊎ (n ≤ ev .a) → cond t (m .to) (cond (ltb (ev .a) n) (ev .a) 0) < n
     go true h = inside
-    go false (inl l) = rw (lt-ltb a n l) l
-    go false (inr l) = rw (le-ltb a n l) low
+    go false (inl l) = rw (lt-ltb (ev .a) n l) l
+    go false (inr l) = rw (le-ltb (ev .a) n l) low
 
 module _ (anc : ℕ → ℕ) (n dead : ℕ) where
   -- ---- a delivery
@@ -65,41 +67,41 @@ module _ (anc : ℕ → ℕ) (n dead : ℕ) where
 
   -- ---- what the event has its rank do
 
-  pub act-enters : (kind b : ℕ) (m : Message) (me : ℕ) (r : Rank) (row : List ℕ) (a : Acted) → kind ≡ 1 → a ≡ entering anc n me b r → a ≡ acting anc n dead kind b m me r row
+  pub act-enters : (ev : Event) (m : Message) (me : ℕ) (r : Rank) (row : List ℕ) (a : Acted) → ev .kind ≡ 1 → a ≡ entering anc n me (ev .b) r → a ≡ acting anc n dead ev m me r row
   unfolding acting
-  act-enters kind b m me r row a k e = e ∙ rw (eq-eqb kind 1 k)
+  act-enters ev m me r row a k e = e ∙ rw (eq-eqb (ev .kind) 1 k)
 
-  pub act-delivers : (kind b : ℕ) (m : Message) (me : ℕ) (r : Rank) (row : List ℕ) (a : Acted) → (kind ≡ 1 → ⊥) → kind ≡ 2 → a ≡ delivered anc n dead me m r row → a ≡ acting anc n dead kind b m me r row
+  pub act-delivers : (ev : Event) (m : Message) (me : ℕ) (r : Rank) (row : List ℕ) (a : Acted) → (ev .kind ≡ 1 → ⊥) → ev .kind ≡ 2 → a ≡ delivered anc n dead me m r row → a ≡ acting anc n dead ev m me r row
   unfolding acting
-  act-delivers kind b m me r row a h k e = e ∙ rw (ne-eqb kind 1 h, eq-eqb kind 2 k)
+  act-delivers ev m me r row a h k e = e ∙ rw (ne-eqb (ev .kind) 1 h, eq-eqb (ev .kind) 2 k)
 
-  pub act-notices : (kind b : ℕ) (m : Message) (me : ℕ) (r : Rank) (row : List ℕ) (a : Acted) → (kind ≡ 1 → ⊥) → (kind ≡ 2 → ⊥) → kind ≡ 4 → a ≡ noticing anc n me b r → a ≡ acting anc n dead kind b m me r row
+  pub act-notices : (ev : Event) (m : Message) (me : ℕ) (r : Rank) (row : List ℕ) (a : Acted) → (ev .kind ≡ 1 → ⊥) → (ev .kind ≡ 2 → ⊥) → ev .kind ≡ 4 → a ≡ noticing anc n me (ev .b) r → a ≡ acting anc n dead ev m me r row
   unfolding acting
-  act-notices kind b m me r row a h i k e = e ∙ rw (ne-eqb kind 1 h, ne-eqb kind 2 i, eq-eqb kind 4 k)
+  act-notices ev m me r row a h i k e = e ∙ rw (ne-eqb (ev .kind) 1 h, ne-eqb (ev .kind) 2 i, eq-eqb (ev .kind) 4 k)
 
-  pub act-nothing : (kind b : ℕ) (m : Message) (me : ℕ) (r : Rank) (row : List ℕ) (a : Acted) → (kind ≡ 1 → ⊥) → (kind ≡ 2 → ⊥) → (kind ≡ 4 → ⊥) → a ≡ idle r row → a ≡ acting anc n dead kind b m me r row
+  pub act-nothing : (ev : Event) (m : Message) (me : ℕ) (r : Rank) (row : List ℕ) (a : Acted) → (ev .kind ≡ 1 → ⊥) → (ev .kind ≡ 2 → ⊥) → (ev .kind ≡ 4 → ⊥) → a ≡ idle r row → a ≡ acting anc n dead ev m me r row
   unfolding acting
-  act-nothing kind b m me r row a h i k e = e ∙ rw (ne-eqb kind 1 h, ne-eqb kind 2 i, ne-eqb kind 4 k)
+  act-nothing ev m me r row a h i k e = e ∙ rw (ne-eqb (ev .kind) 1 h, ne-eqb (ev .kind) 2 i, ne-eqb (ev .kind) 4 k)
 
   -- ---- the plan
 
-  pub plan-refused : (c kind a b : ℕ) (m : Message) (me : ℕ) (r : Rank) (row : List ℕ) (z : ℕ) (p : Plan) → z ≡ refusal n dead c kind a b r m → (z ≡ 0 → ⊥) → p ≡ refusing z r row
-      → p ≡ planned anc n dead c kind a b m me r row
+  pub plan-refused : (c : ℕ) (ev : Event) (m : Message) (me : ℕ) (r : Rank) (row : List ℕ) (z : ℕ) (p : Plan) → z ≡ refusal n dead c ev r m → (z ≡ 0 → ⊥) → p ≡ refusing z r row
+      → p ≡ planned anc n dead c ev m me r row
   unfolding planned
-  plan-refused c kind a b m me r row z p e h f = f ∙ rw (← e, ne-eqb z 0 h)
+  plan-refused c ev m me r row z p e h f = f ∙ rw (← e, ne-eqb z 0 h)
 
-  pub plan-full : (c kind a b : ℕ) (m : Message) (me : ℕ) (r : Rank) (row : List ℕ) (z : ℕ) (x : Acted) (l : Bool) (f g t : ℕ) (p : Plan) → z ≡ refusal n dead c kind a b r m → z ≡ 0
-      → x ≡ acting anc n dead kind b m me r row → l ≡ namesPlace kind → f ≡ count (has (x .first .to)) 64 → g ≡ count (has (x .second .to)) 64 → t ≡ c + f + g - cond l 1 0 → 128 < t → p ≡ refusing 11 r row
-      → p ≡ planned anc n dead c kind a b m me r row
+  pub plan-full : (c : ℕ) (ev : Event) (m : Message) (me : ℕ) (r : Rank) (row : List ℕ) (z : ℕ) (x : Acted) (l : Bool) (f g t : ℕ) (p : Plan) → z ≡ refusal n dead c ev r m → z ≡ 0
+      → x ≡ acting anc n dead ev m me r row → l ≡ namesPlace (ev .kind) → f ≡ count (has (x .first .to)) 64 → g ≡ count (has (x .second .to)) 64 → t ≡ c + f + g - cond l 1 0 → 128 < t → p ≡ refusing 11 r row
+      → p ≡ planned anc n dead c ev m me r row
   unfolding planned fitting afterwards
-  plan-full c kind a b m me r row z x l f g t p e h ex el ef eg et o ep =
-      let full : ltb 128 (c + count (has (x .first .to)) 64 + count (has (x .second .to)) 64 - cond (namesPlace kind) 1 0) ≡ true = lt-ltb 128 (c + count (has (x .first .to)) 64 + count (has (x .second .to)) 64 - cond (namesPlace kind) 1 0) (rw (← ef, ← eg, ← el, ← et) o) in
+  plan-full c ev m me r row z x l f g t p e h ex el ef eg et o ep =
+      let full : ltb 128 (c + count (has (x .first .to)) 64 + count (has (x .second .to)) 64 - cond (namesPlace (ev .kind)) 1 0) ≡ true = lt-ltb 128 (c + count (has (x .first .to)) 64 + count (has (x .second .to)) 64 - cond (namesPlace (ev .kind)) 1 0) (rw (← ef, ← eg, ← el, ← et) o) in
       ep ∙ rw (← e, eq-eqb z 0 h, ← ex, full)
 
-  pub plan-accepted : (c kind a b : ℕ) (m : Message) (me : ℕ) (r : Rank) (row : List ℕ) (z : ℕ) (x : Acted) (l : Bool) (f g t : ℕ) → z ≡ refusal n dead c kind a b r m → z ≡ 0
-      → x ≡ acting anc n dead kind b m me r row → l ≡ namesPlace kind → f ≡ count (has (x .first .to)) 64 → g ≡ count (has (x .second .to)) 64 → t ≡ c + f + g - cond l 1 0 → t ≤ 128
-      → _≡_ {A = Plan} (record { answer = 0; leaves = l; dies = eqb kind 3; acted = x }) (planned anc n dead c kind a b m me r row)
+  pub plan-accepted : (c : ℕ) (ev : Event) (m : Message) (me : ℕ) (r : Rank) (row : List ℕ) (z : ℕ) (x : Acted) (l : Bool) (f g t : ℕ) → z ≡ refusal n dead c ev r m → z ≡ 0
+      → x ≡ acting anc n dead ev m me r row → l ≡ namesPlace (ev .kind) → f ≡ count (has (x .first .to)) 64 → g ≡ count (has (x .second .to)) 64 → t ≡ c + f + g - cond l 1 0 → t ≤ 128
+      → _≡_ {A = Plan} (record { answer = 0; leaves = l; dies = eqb (ev .kind) 3; acted = x }) (planned anc n dead c ev m me r row)
   unfolding planned fitting afterwards accepting
-  plan-accepted c kind a b m me r row z x l f g t e h ex el ef eg et o =
-      let room : ltb 128 (c + count (has (x .first .to)) 64 + count (has (x .second .to)) 64 - cond (namesPlace kind) 1 0) ≡ false = le-ltb 128 (c + count (has (x .first .to)) 64 + count (has (x .second .to)) 64 - cond (namesPlace kind) 1 0) (rw (← ef, ← eg, ← el, ← et) o) in
+  plan-accepted c ev m me r row z x l f g t e h ex el ef eg et o =
+      let room : ltb 128 (c + count (has (x .first .to)) 64 + count (has (x .second .to)) 64 - cond (namesPlace (ev .kind)) 1 0) ≡ false = le-ltb 128 (c + count (has (x .first .to)) 64 + count (has (x .second .to)) 64 - cond (namesPlace (ev .kind)) 1 0) (rw (← ef, ← eg, ← el, ← et) o) in
       rw (← e, eq-eqb z 0 h, ← ex, room, el)

@@ -16,7 +16,7 @@ returns : tie.Need-returns
 returns c = search plan-refused
 
 act-requires : tie.Need-act-requires
-act-requires c κs = (search needs, notice-names _ _ _ _ _ _ _ _ (sym (c .before .refusal .ensures) ∙ c .if1 .left))
+act-requires c κs = (search needs, notice-names _ _ _ _ _ _ (sym (c .before .refusal .ensures) ∙ c .if1 .left))
 
 names-place-requires : tie.Need-names-place-requires
 names-place-requires c κs = search needs
@@ -38,13 +38,14 @@ returns-2 c = search plan-full
 
 returns-3 : tie.Need-returns-3
 returns-3 c =
-    let after = c .before in
+    let left = c .before in
+    let after = left .before in
     let second = after .before in
     let first = second .before in
     let place = first .before in
     let act = place .before .before .before in
     let clean = act .before in
-    plan-accepted _ _ _ _ _ _ _ _ _ _ _ _ _ _ _ _ _ (clean .before .refusal .ensures) (clean .if1 .left) (act .act .ensures) (place .names-place .ensures) (first .size .ensures) (second .size2 .ensures) (after .afterwards .ensures) (c .if2 .left)
+    plan-accepted _ _ _ _ _ _ _ _ _ _ _ _ _ _ _ (clean .before .refusal .ensures) (clean .if1 .left) (act .act .ensures) (place .names-place .ensures) (first .size .ensures) (second .size2 .ensures) (after .afterwards .ensures) (left .if2 .left)
 
 pub plan-event-spec : {M : Type 1} → statement M
 plan-event-spec =

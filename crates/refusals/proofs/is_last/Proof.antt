@@ -19,7 +19,7 @@ only-requires c κs = search needs
 
 returns : tie.Need-returns
 unfolding isLast
-returns c = rw (c .only .ensures, c .before .minus .ensures, c .before .before .below .ensures)
+returns c = rw (c .only .ensures, c .before .before .minus .ensures, c .before .before .before .below .ensures)
 
 returns-2 : tie.Need-returns-2
 returns-2 c = search not-last

@@ -9,7 +9,7 @@ names-place-requires c κs = search needs
 
 returns : tie.Need-returns
 unfolding noMessage
-returns c = rw (c .names-place .ensures)
+returns c = rw (c .before .names-place .ensures)
 
 pub no-message-spec : {M : Type 1} → statement M
 no-message-spec = tie.close (tie.spec names-place-requires returns)

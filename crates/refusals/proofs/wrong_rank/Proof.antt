@@ -9,7 +9,7 @@ names-rank-requires c κs = search needs
 
 returns : tie.Need-returns
 unfolding wrongRank
-returns c = rw (c .names-rank .ensures)
+returns c = rw (c .before .before .before .names-rank .ensures)
 
 pub wrong-rank-spec : {M : Type 1} → statement M
 wrong-rank-spec = tie.close (tie.spec names-rank-requires returns)

@@ -3,7 +3,7 @@ use mathlib.Core.Path.{_≡_, refl, sym, ap, subst, _∙_}
 use mathlib.Core.Bool.{true, false}
 use mathlib.Core.List.{List}
 use mathlib.Core.Logic.{_⊎_, inl, inr}
-use Prim.Native.Nat.{ℕ, zero, suc, _+_, _*_, _≤_}
+use Prim.Native.Nat.{ℕ, _*_, _≤_}
 use native.Mathlib.Omega.{arith}
 use lib.Dec.{ltb}
 use lib.ListN.{length}
@@ -14,37 +14,22 @@ use Rattle.tree.specs.Calls.{wrongSize}
 use Rattle.tree.proofs.Laws.Calls.{size-le, size-pos}
 use Rattle.state.specs.declared.State.{State}
 use Rattle.state.specs.Starting.{freshState}
-use Rattle.order.specs.Between.{InOrder}
 use Rattle.order.proofs.Laws.Ordering.{in-order-facts}
 use Rattle.order.proofs.Laws.Fresh.{fresh-in-order}
-use Rattle.group.proofs.Laws.Preserving.{step-keeps-order}
 use Rattle.files.specs.declared.Header.{Header}
 use Rattle.files.specs.declared.Header.the-variants.{Good, NoHeader, WrongMark, WrongVersion, WrongSize, TooLong, Broken}
 use Rattle.files.specs.Files.{eventAt, eventsIn, header}
 use Rattle.files.proofs.Laws.Opening.{Opened, goodness, good-opened, bad-number}
-use Rattle.schedule.specs.Runs.{Run, stepAt, written, played, refusedRun, acceptedRun, opened, run}
-use Rattle.schedule.proofs.Laws.Runs.{written-long}
+use Rattle.playing.specs.Playing.{Run, played}
+use Rattle.playing.proofs.Laws.Playing.{played-long, played-in-order}
+use Rattle.schedule.specs.Runs.{refusedRun, opened, run}
 use Rattle.schedule.proofs.Laws.Opening.{opened-bad}
-
-pub played-in-order : (file : List ℕ) (left k : ℕ) (s : State) (out : List ℕ) → InOrder flat s → InOrder flat (played flat file left k s out .state)
-unfolding played stepAt
-played-in-order file zero k s out o = o
-played-in-order file (suc left) k s out o =
-    played-in-order file left (k + 1) (stepAt flat file k s .state) (written out k (stepAt flat file k s .answer) (stepAt flat file k s .sent) (stepAt flat file k s .moved .count))
-    (step-keeps-order flat s (eventAt file k .kind) (eventAt file k .a) (eventAt file k .b) o)
-
-length-played : (file : List ℕ) (left k : ℕ) (s : State) (out : List ℕ) → length (played flat file left k s out .answers) ≡ length out
-unfolding played
-length-played file zero k s out = refl
-length-played file (suc left) k s out =
-    length-played file left (k + 1) (stepAt flat file k s .state) (written out k (stepAt flat file k s .answer) (stepAt flat file k s .sent) (stepAt flat file k s .moved .count))
-    ∙ written-long out k (stepAt flat file k s .answer) (stepAt flat file k s .sent) (stepAt flat file k s .moved .count)
 
 -- A run is accepted only with a good header and a slice that is long enough.
 pub record Whole (file out : List ℕ) (n events : ℕ) : Type 0 where
   pub opens : Opened file n events
   pub room : 3 * events ≤ length out
-  pub run-is : run flat file out ≡ acceptedRun (played flat file events 0 (freshState flat n) out)
+  pub run-is : run flat file out ≡ played flat (eventAt file) events 0 (freshState flat n) out
 
 pub run-whole : (file out : List ℕ) (C : Type 0) → run flat file out .answer ≡ 0 → ((n events : ℕ) → Whole file out n events → C) → C
 unfolding run opened refusedRun
@@ -75,20 +60,19 @@ pub record Ended (file out : List ℕ) (s : State) (answers : List ℕ) : Type 0
   pub size : s .group .n ≤ 64
 
 pub run-ended : (file out : List ℕ) (a : ℕ) (s : State) (answers : List ℕ) → a ≡ run flat file out .answer → s ≡ run flat file out .state → answers ≡ run flat file out .answers → a ≡ 0 → Ended file out s answers
-unfolding acceptedRun
 run-ended file out a s answers ea es ev z = run-whole file out (Ended file out s answers) (sym ea ∙ z) whole
   where
     whole : (n events : ℕ) → Whole file out n events → Ended file out s answers
     whole n events w =
         let o = w .opens in
         let f = fresh-in-order flat n (size-pos n (o .size)) (size-le n (wrongSize n) refl (o .size)) in
-        let st : s ≡ played flat file events 0 (freshState flat n) out .state = es ∙ ap (λ (x : Run). x .state) (w .run-is) in
-        let an : answers ≡ played flat file events 0 (freshState flat n) out .answers = ev ∙ ap (λ (x : Run). x .answers) (w .run-is) in
-        let kept : length answers ≡ length out = ap length an ∙ length-played file events 0 (freshState flat n) out in
+        let st : s ≡ played flat (eventAt file) events 0 (freshState flat n) out .state = es ∙ ap (λ (x : Run). x .state) (w .run-is) in
+        let an : answers ≡ played flat (eventAt file) events 0 (freshState flat n) out .answers = ev ∙ ap (λ (x : Run). x .answers) (w .run-is) in
+        let kept : length answers ≡ length out = ap length an ∙ played-long flat (eventAt file) events 0 (freshState flat n) out in
         record {
           long = omega (arith, o .whole);
           short = o .short;
           room = omega (arith, w .room, o .events-are);
           few = omega (arith, o .whole, o .short, o .events-are);
-          size = subst (λ (x : State). x .group .n ≤ 64) (sym st) (in-order-facts flat (played flat file events 0 (freshState flat n) out .state) (played-in-order file events 0 (freshState flat n) out f) .size-high);
+          size = subst (λ (x : State). x .group .n ≤ 64) (sym st) (in-order-facts flat (played flat (eventAt file) events 0 (freshState flat n) out .state) (played-in-order flat (eventAt file) events 0 (freshState flat n) out f) .size-high);
         }

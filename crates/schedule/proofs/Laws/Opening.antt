@@ -19,9 +19,11 @@ use Rattle.order.specs.Between.{InOrder}
 use Rattle.order.proofs.Laws.Fresh.{fresh-in-order}
 use Rattle.files.specs.declared.Header.{Header}
 use Rattle.files.specs.declared.Header.the-variants.{Good, NoHeader, WrongMark, WrongVersion, WrongSize, TooLong, Broken}
-use Rattle.files.specs.Files.{longest, header, numberOf}
+use Rattle.files.specs.Files.{longest, eventAt, header, numberOf}
 use Rattle.files.proofs.Laws.Opening.{goodness, good-opened, bad-number, long-bad, long-start}
-use Rattle.schedule.specs.Runs.{Run, played, refusedRun, acceptedRun, opened, run}
+use Rattle.playing.specs.Playing.{Run, eventIn, played, spelt}
+use Rattle.playing.proofs.Laws.Playing.{played-answers, played-spelt}
+use Rattle.schedule.specs.Runs.{refusedRun, opened, run}
 
 -- The group that a good header starts is in order.
 pub opened-in-order : (file : List ℕ) (n t : ℕ) (h : Header) (u : Started) → h ≡ header file → h ≡ Good n t → u ≡ started flat n → InOrder flat (u .state)
@@ -62,16 +64,18 @@ pub run-no-room : (file out : List ℕ) (h : Header) (n t a : ℕ) (s : State) �
     → (a ≡ run flat file out .answer) × ((s ≡ run flat file out .state) × (out ≡ run flat file out .answers))
 run-no-room file out h n t a s e f l = refused-parts file out h 25 a s e (opened-short file out h n t f l)
 
-pub run-accepted : (file out v : List ℕ) (h : Header) (n t : ℕ) (u : Started) (s : State) → h ≡ header file → h ≡ Good n t → 3 * t ≤ length out → u ≡ started flat n
-    → s ≡ played flat file t 0 (u .state) out .state → v ≡ played flat file t 0 (u .state) out .answers
+pub run-accepted : (file out o v : List ℕ) (h : Header) (n t : ℕ) (u : Started) (s : State) → h ≡ header file → h ≡ Good n t → 3 * t ≤ length out → u ≡ started flat n
+    → o ≡ spelt (eventAt file) t out → s ≡ played flat (eventIn o) t 0 (u .state) o .state → v ≡ played flat (eventIn o) t 0 (u .state) o .answers
     → (0 ≡ run flat file out .answer) × ((s ≡ run flat file out .state) × (v ≡ run flat file out .answers))
-unfolding run opened acceptedRun
-run-accepted file out v h n t u s e f l g i j =
-    let o = good-opened file n t (sym f ∙ e) in
-    let q : u .state ≡ freshState flat n = ap (λ (x : Started). x .state) g ∙ started-small flat n (o .size) .1 in
-    parts-of file out v 0 s (acceptedRun (played flat file t 0 (freshState flat n) out))
-    (ap (opened flat file out) (sym e ∙ f) ∙ rw (le-ltb (length out) (3 * t) l)) refl
-    (i ∙ ap (λ (x : State). played flat file t 0 x out .state) q) (j ∙ ap (λ (x : State). played flat file t 0 x out .answers) q)
+unfolding run opened
+run-accepted file out o v h n t u s e f l g eo i j =
+    let w = good-opened file n t (sym f ∙ e) in
+    let q : u .state ≡ freshState flat n = ap (λ (x : Started). x .state) g ∙ started-small flat n (w .size) .1 in
+    let p : played flat (eventIn o) t 0 (u .state) o ≡ played flat (eventAt file) t 0 (freshState flat n) out =
+    ap (λ (x : List ℕ). played flat (eventIn x) t 0 (u .state) x) eo ∙ played-spelt flat (eventAt file) t (u .state) out l ∙ ap (λ (x : State). played flat (eventAt file) t 0 x out) q in
+    parts-of file out v 0 s (played flat (eventAt file) t 0 (freshState flat n) out)
+    (ap (opened flat file out) (sym e ∙ f) ∙ rw (le-ltb (length out) (3 * t) l)) (sym (played-answers flat (eventAt file) t 0 (freshState flat n) out))
+    (i ∙ ap (λ (x : Run). x .state) p) (j ∙ ap (λ (x : Run). x .answers) p)
 
 -- ---- a file that is too long
 

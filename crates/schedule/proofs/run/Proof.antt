@@ -1,5 +1,6 @@
 -- `run` meets its contract: a bad header, no room for the answers, or the play. Assumes nothing.
 use borrow.Author.Needs.{needs}
+use Rattle.playing.proofs.Laws.Slices.{spelt-room}
 use Rattle.files.proofs.Laws.Opening.{opened-whole, tag-bad}
 use Rattle.schedule.proofs.Laws.Opening.{run-refused, run-no-room, run-accepted, opened-in-order}
 use Rattle.schedule.proofs.run.Statement.{statement}
@@ -42,12 +43,18 @@ cast-start c = search needs
 start-requires : tie.Need-start-requires
 start-requires c κs = search needs
 
+spell-requires : tie.Need-spell-requires
+spell-requires c κs =
+    let room = c .before .before .before in
+    let known = room .before .before in
+    (opened-whole _ _ _ _ (known .before .before .read-header .ensures) (known .h .given .1), room .if1 .left)
+
 play-requires : tie.Need-play-requires
 play-requires c κs =
-    let started = c .before .before in
+    let spelt = c .before .before .before in
+    let started = spelt .before .before .before in
     let known = started .before .before .before in
-    let header = known .before .before .read-header .ensures in
-    (opened-in-order _ _ _ _ _ header (known .h .given .1) (started .start .ensures), (opened-whole _ _ _ _ header (known .h .given .1), started .before .if1 .left))
+    (opened-in-order _ _ _ _ _ (known .before .before .read-header .ensures) (known .h .given .1) (started .start .ensures), spelt-room _ _ _ _ (spelt .spell .ensures) (started .before .if1 .left))
 
 same-length : tie.Need-same-length
 same-length c = search needs
@@ -55,9 +62,10 @@ same-length c = search needs
 returns-3 : tie.Need-returns-3
 returns-3 c =
     let played = c .before .before in
-    let started = played .before .before .before in
+    let spelt = played .before .before .before .before in
+    let started = spelt .before .before .before in
     let known = started .before .before .before in
-    run-accepted _ _ _ _ _ _ _ _ (known .before .before .read-header .ensures) (known .h .given .1) (started .before .if1 .left) (started .start .ensures) (played .play .ensures .0) (played .play .ensures .1)
+    run-accepted _ _ _ _ _ _ _ _ _ (known .before .before .read-header .ensures) (known .h .given .1) (started .before .if1 .left) (started .start .ensures) (spelt .spell .ensures) (played .play .ensures .0) (played .play .ensures .1)
 
 pub run-spec : {M : Type 1} → statement M
 run-spec =
@@ -74,6 +82,7 @@ run-spec =
     returns-2
     cast-start
     start-requires
+    spell-requires
     play-requires
     same-length
     returns-3)

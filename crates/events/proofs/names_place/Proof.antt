@@ -1,8 +1,8 @@
 -- `names_place` meets its contract: the tests are the definition's. Assumes nothing.
 use mathlib.Core.Path.{refl}
-use Rattle.refusals.specs.Refusing.{namesPlace}
-use Rattle.refusals.proofs.names_place.Statement.{statement}
-use Rattle.refusals.proofs.names_place.Tie as tie
+use Rattle.events.specs.Events.{namesPlace}
+use Rattle.events.proofs.names_place.Statement.{statement}
+use Rattle.events.proofs.names_place.Tie as tie
 
 returns : tie.Need-returns
 unfolding namesPlace

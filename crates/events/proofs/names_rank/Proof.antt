@@ -1,8 +1,8 @@
 -- `names_rank` meets its contract: the tests are the definition's. Assumes nothing.
 use mathlib.Core.Path.{refl}
-use Rattle.refusals.specs.Refusing.{namesRank}
-use Rattle.refusals.proofs.names_rank.Statement.{statement}
-use Rattle.refusals.proofs.names_rank.Tie as tie
+use Rattle.events.specs.Events.{namesRank}
+use Rattle.events.proofs.names_rank.Statement.{statement}
+use Rattle.events.proofs.names_rank.Tie as tie
 
 returns : tie.Need-returns
 unfolding namesRank

@@ -1,27 +1,27 @@
 -- `play` meets its contract: what is still to come has the same end. Assumes nothing.
+use borrow.Author.Needs.{needs}
 use Prim.Native.Nat.{_-_}
 use native.Mathlib.Omega.{arith}
-use borrow.Author.Needs.{needs}
 use Rattle.plans.proofs.Laws.Accepting.{step-place, step-room}
-use Rattle.schedule.proofs.Laws.Runs.{held, Going, going-begin, going-event, going-room, going-subject, going-ready, going-held, going-count, going-refused, going-accepted, going-end}
-use Rattle.schedule.proofs.play.Statement.{statement}
-use Rattle.schedule.proofs.play.Tie as tie
+use Rattle.playing.proofs.Laws.Going.{held, Going, going-begin, going-room, going-subject, going-ready, going-held, going-count, going-refused, going-accepted, going-end}
+use Rattle.playing.proofs.play.Statement.{statement}
+use Rattle.playing.proofs.play.Tie as tie
 
 abbrev Inv-loop : tie.InvT-loop
-Inv-loop file total out₀ n dead₀ count₀ ranks₀ net₀ tables₀ k₀ out dead count ranks net tables k =
-    Going file total (held n dead₀ count₀ ranks₀ net₀ tables₀) out₀ (held n dead count ranks net tables) out k
+Inv-loop total out₀ n dead₀ count₀ ranks₀ net₀ tables₀ k₀ out dead count ranks net tables k =
+    Going total (held n dead₀ count₀ ranks₀ net₀ tables₀) out₀ (held n dead count ranks net tables) out k
 
 abbrev μ-loop : tie.MeasureT-loop
-μ-loop file total out₀ n dead₀ count₀ ranks₀ net₀ tables₀ k₀ out dead count ranks net tables k = total - k
+μ-loop total out₀ n dead₀ count₀ ranks₀ net₀ tables₀ k₀ out dead count ranks net tables k = total - k
 
 tables-of-requires : tie.Need-tables-of-requires Inv-loop μ-loop
 tables-of-requires c κs = search needs
 
 loop-holds : tie.Need-loop-holds Inv-loop μ-loop
-loop-holds c = going-begin _ _ _ _ _ (c .tables-of .ensures) (c .before .before .before .before .before .before .pre .1 .0) (c .before .before .before .before .before .before .pre .1 .1) (c .before .before .before .before .before .before .pre .0)
+loop-holds c = going-begin _ _ _ _ (c .tables-of .ensures) (c .before .before .before .before .before .pre .1) (c .before .before .before .before .before .pre .0)
 
-event-at-requires : tie.Need-event-at-requires Inv-loop μ-loop
-event-at-requires c κs = search going-event
+event-in-requires : tie.Need-event-in-requires Inv-loop μ-loop
+event-in-requires c κs = search going-room
 
 at-requires : tie.Need-at-requires Inv-loop μ-loop
 at-requires c κs = search needs
@@ -54,7 +54,7 @@ tell-requires : tie.Need-tell-requires Inv-loop μ-loop
 tell-requires c κs = search going-room
 
 add-k : tie.Need-add-k Inv-loop μ-loop
-add-k c = omega (arith, c .before .before .before .before .before .before .before .before .before .before .loop-test .taken, c .before .before .before .before .before .before .before .before .before .before .before .before .before .before .before .before .before .before .fits)
+add-k c = omega (arith, c .before .before .before .before .before .before .before .before .before .before .before .loop-test .taken, c .before .before .before .before .before .before .before .before .before .before .before .before .before .before .before .before .before .before .fits)
 
 loop-less : tie.Need-loop-less Inv-loop μ-loop
 loop-less c = search needs
@@ -65,24 +65,23 @@ loop-again c =
     let plan = told .before .before in
     let subject = plan .before .before .before in
     let event = subject .before .before in
-    let turn = event .before in
+    let turn = event .before .before in
     let loop = turn .before in
-    going-refused _ _ _ _ _ _ _ _ _ _ _ _ _ _ _ _ _ (loop .loop .inv) (turn .loop-test .taken) (event .event-at .ensures) (subject .before .at .ensures) (subject .subject .ensures) (plan .plan-event .ensures) (told .tell .ensures) (c .if1 .taken)
+    going-refused _ _ _ _ _ _ _ _ _ _ _ _ _ _ _ _ (loop .loop .inv) (turn .loop-test .taken) (event .event-in .ensures) (subject .before .at .ensures) (subject .subject .ensures) (plan .plan-event .ensures) (told .tell .ensures) (c .if1 .taken)
 
 post-requires : tie.Need-post-requires Inv-loop μ-loop
 post-requires c κs =
     let told = c .before .before .before .before in
     let plan = told .before .before in
-    let subject = plan .before .before .before in
-    let loop = subject .before .before .before .before in
+    let loop = plan .before .before .before .before .before .before .before .before in
     let taken = c .if1 .left in
-    (going-held _ _ _ _ _ _ _ _ _ _ _ _ (loop .loop .inv), (going-count _ _ _ _ _ _ _ _ _ _ _ _ (loop .loop .inv), (λ t. step-place _ _ _ _ _ _ _ _ _ _ _ (plan .plan-event .ensures) taken t, step-room _ _ _ _ _ _ _ _ _ _ _ (plan .plan-event .ensures) taken)))
+    (going-held _ _ _ _ _ _ _ _ _ _ _ (loop .loop .inv), (going-count _ _ _ _ _ _ _ _ _ _ _ (loop .loop .inv), (λ t. step-place _ _ _ _ _ _ _ _ _ (plan .plan-event .ensures) taken t, step-room _ _ _ _ _ _ _ _ _ (plan .plan-event .ensures) taken)))
 
 buried-requires : tie.Need-buried-requires Inv-loop μ-loop
 buried-requires c κs =
     let told = c .before .before .before .before .before .before in
     let subject = told .before .before .before .before .before in
-    going-subject _ _ _ _ _ _ _ _ _ _ _ _ _ _ _ _ (subject .before .before .before .before .loop .inv) (subject .before .at .ensures) (subject .subject .ensures)
+    going-subject _ _ _ _ _ _ _ _ _ _ _ _ _ _ (subject .before .before .before .before .before .loop .inv) (subject .before .at .ensures) (subject .subject .ensures)
 
 cast-ranks : tie.Need-cast-ranks Inv-loop μ-loop
 cast-ranks c = search needs
@@ -94,7 +93,7 @@ array-set-from-ranks : tie.Need-array-set-from-ranks Inv-loop μ-loop
 array-set-from-ranks c =
     let told = c .before .before .before .before .before .before .before .before .before .before in
     let subject = told .before .before .before .before .before in
-    going-subject _ _ _ _ _ _ _ _ _ _ _ _ _ _ _ _ (subject .before .before .before .before .loop .inv) (subject .before .at .ensures) (subject .subject .ensures)
+    going-subject _ _ _ _ _ _ _ _ _ _ _ _ _ _ (subject .before .before .before .before .before .loop .inv) (subject .before .at .ensures) (subject .subject .ensures)
 
 cast-tables : tie.Need-cast-tables Inv-loop μ-loop
 cast-tables c = search needs
@@ -106,10 +105,10 @@ array-set-from-tables : tie.Need-array-set-from-tables Inv-loop μ-loop
 array-set-from-tables c =
     let told = c .before .before .before .before .before .before .before .before .before .before in
     let subject = told .before .before .before .before .before in
-    going-subject _ _ _ _ _ _ _ _ _ _ _ _ _ _ _ _ (subject .before .before .before .before .loop .inv) (subject .before .at .ensures) (subject .subject .ensures)
+    going-subject _ _ _ _ _ _ _ _ _ _ _ _ _ _ (subject .before .before .before .before .before .loop .inv) (subject .before .at .ensures) (subject .subject .ensures)
 
 loop-less-2 : tie.Need-loop-less-2 Inv-loop μ-loop
-loop-less-2 c = omega (arith, c .before .before .before .before .before .before .before .before .before .before .before .before .before .before .before .before .before .before .loop-test .taken)
+loop-less-2 c = omega (arith, c .before .before .before .before .before .before .before .before .before .before .before .before .before .before .before .before .before .before .before .loop-test .taken)
 
 loop-again-2 : tie.Need-loop-again-2 Inv-loop μ-loop
 loop-again-2 c =
@@ -117,10 +116,10 @@ loop-again-2 c =
     let plan = told .before .before in
     let subject = plan .before .before .before in
     let event = subject .before .before in
-    let turn = event .before in
+    let turn = event .before .before in
     let loop = turn .before in
     let forth = c .before .before .before .before .before in
-    going-accepted _ _ _ _ _ _ _ _ _ _ _ _ _ _ _ _ _ _ _ (loop .loop .inv) (turn .loop-test .taken) (event .event-at .ensures) (subject .before .at .ensures) (subject .subject .ensures) (plan .plan-event .ensures) (told .tell .ensures) (forth .before .if1 .left) (forth .post .ensures) (c .before .before .before .buried .ensures)
+    going-accepted _ _ _ _ _ _ _ _ _ _ _ _ _ _ _ _ _ _ (loop .loop .inv) (turn .loop-test .taken) (event .event-in .ensures) (subject .before .at .ensures) (subject .subject .ensures) (plan .plan-event .ensures) (told .tell .ensures) (forth .before .if1 .left) (forth .post .ensures) (c .before .before .before .buried .ensures)
 
 assemble-requires : tie.Need-assemble-requires Inv-loop μ-loop
 assemble-requires c κs = search needs
@@ -129,7 +128,7 @@ same-length : tie.Need-same-length Inv-loop μ-loop
 same-length c = search needs
 
 returns : tie.Need-returns Inv-loop μ-loop
-returns c = going-end _ _ _ _ _ _ _ _ _ (c .before .before .before .tables-of .ensures) (c .before .before .loop .inv) (c .before .loop-test .left) (c .assemble .ensures)
+returns c = going-end _ _ _ _ _ _ _ _ (c .before .before .before .tables-of .ensures) (c .before .before .loop .inv) (c .before .loop-test .left) (c .assemble .ensures)
 
 pub play-spec : {M : Type 1} → statement M
 play-spec =
@@ -139,7 +138,7 @@ play-spec =
     μ-loop
     tables-of-requires
     loop-holds
-    event-at-requires
+    event-in-requires
     at-requires
     subject-requires
     cast-r

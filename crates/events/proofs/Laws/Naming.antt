@@ -1,0 +1,23 @@
+-- What a kind names. Assumes nothing.
+use mathlib.Core.Path.{_≡_}
+use mathlib.Core.Bool.{true, false}
+use mathlib.Core.Logic.{_⊎_, inl, inr, ⊎-elim}
+use Prim.Native.Nat.{ℕ}
+use lib.Dec.{eqb}
+use borrow.Author.Tests.{eqb-true}
+use Rattle.sets.proofs.Laws.Bools.{or-cases}
+use Rattle.events.specs.Events.{namesRank, namesPlace}
+
+pub names-a-rank : (kind : ℕ) → (kind ≡ 1) ⊎ ((kind ≡ 3) ⊎ (kind ≡ 4)) → (namesRank kind ≡ true) × (namesPlace kind ≡ false)
+unfolding namesRank namesPlace
+names-a-rank kind (inl k) = (rw k, rw k)
+names-a-rank kind (inr (inl k)) = (rw k, rw k)
+names-a-rank kind (inr (inr k)) = (rw k, rw k)
+
+pub names-a-place : (kind : ℕ) → kind ≡ 2 → namesPlace kind ≡ true
+unfolding namesPlace
+names-a-place kind k = rw k
+
+pub place-kinds : (kind : ℕ) → namesPlace kind ≡ true → (kind ≡ 2) ⊎ (kind ≡ 5)
+unfolding namesPlace
+place-kinds kind t = ⊎-elim (λ (x : eqb kind 2 ≡ true). inl (eqb-true kind 2 x)) (λ (x : eqb kind 5 ≡ true). inr (eqb-true kind 5 x)) (or-cases (eqb kind 2) (eqb kind 5) t)

@@ -1,0 +1,136 @@
+-- The loop along its code: the state's parts are held by themselves, the events still to come stand as they did, and what is still to come
+-- has the same end. Assumes nothing.
+use mathlib.Core.Path.{_≡_, refl, sym, ap, subst, _∙_}
+use mathlib.Core.Bool.{cond}
+use mathlib.Core.List.{List, []}
+use mathlib.Core.Logic.{inr}
+use Prim.Native.Nat.{ℕ, suc, _+_, _*_, _-_, _≤_, _<_}
+use native.Mathlib.Omega.{arith}
+use lib.ListN.{length, getD, set, take}
+use Rattle.sets.specs.Sets.{add}
+use Rattle.tree.specs.Tree.{flat, nobody}
+use Rattle.rank.specs.declared.Rank.{Rank}
+use Rattle.rank.specs.declared.Message.{Message}
+use Rattle.rank.specs.Sends.{size}
+use Rattle.net.specs.declared.Joined.{Joined}
+use Rattle.net.specs.Net.{zeroMessage, padded, placed}
+use Rattle.events.specs.declared.Event.{Event}
+use Rattle.state.specs.declared.State.{State}
+use Rattle.state.specs.States.{zeroRank, joined}
+use Rattle.order.specs.Between.{InOrder}
+use Rattle.plans.specs.declared.Plan.{Plan}
+use Rattle.plans.specs.Plans.{subject, planned}
+use Rattle.plans.specs.Between.{FreshSubject}
+use Rattle.plans.proofs.Laws.Accepting.{refused-quiet}
+use Rattle.group.specs.declared.Stepped.{Stepped}
+use Rattle.group.specs.Events.{posted, event}
+use Rattle.group.proofs.Laws.Stepping.{subject-below, step-ready, step-held, step-count, step-refused, step-accepted}
+use Rattle.group.proofs.Laws.Events.{event-steps-on}
+use Rattle.group.proofs.Laws.Moving.{event-keeps-order}
+use Rattle.playing.specs.Playing.{Run, written, eventIn, told, played}
+use Rattle.playing.proofs.Laws.Slices.{written-long, written-keeps, reads-alike}
+
+-- A state from its parts.
+abbrev pub held : ℕ → ℕ → ℕ → List Rank → List Message → List (List ℕ) → State
+held n dead c ranks net tables = joined (record { n = n; dead = dead; count = c; ranks = ranks; net = net }) tables
+
+-- Before the event at place k: the slice out₀ held the events.
+pub record Going (total : ℕ) (s₀ : State) (out₀ : List ℕ) (s : State) (out : List ℕ) (k : ℕ) : Type 0 where
+  pub room : 3 * total ≤ length out
+  pub within : k ≤ total
+  pub kept : length out ≡ length out₀
+  pub in-order : InOrder flat s
+  pub ahead : (i : ℕ) → 3 * k ≤ i → getD out i 0 ≡ getD out₀ i 0
+  pub same-end : played flat (eventIn out₀) (total - k) k s out ≡ played flat (eventIn out₀) total 0 s₀ out₀
+
+going-start : (total : ℕ) (s : State) (out : List ℕ) → 3 * total ≤ length out → InOrder flat s → Going total s out s out 0
+going-start total s out r o = record { room = r; within = omega arith; kept = refl; in-order = o; ahead = λ i l. refl; same-end = ap (λ (t : ℕ). played flat (eventIn out) t 0 s out) (let z : total - 0 ≡ total = omega arith in z) }
+
+-- The code starts from the parts of s and ends with them put together.
+pub going-begin : (total : ℕ) (s : State) (t : List (List ℕ)) (out : List ℕ) → t ≡ s .tables → 3 * total ≤ length out → InOrder flat s
+    → Going total (joined (s .group) t) out (joined (s .group) t) out 0
+going-begin total s t out e r o = subst (λ (x : List (List ℕ)). Going total (joined (s .group) x) out (joined (s .group) x) out 0) (sym e) (going-start total s out r o)
+
+-- The event that is read is the one that stood there at first.
+going-reads : (total : ℕ) (s₀ : State) (out₀ : List ℕ) (s : State) (out : List ℕ) (k : ℕ) → Going total s₀ out₀ s out k → eventIn out k ≡ eventIn out₀ k
+going-reads total s₀ out₀ s out k g = reads-alike out out₀ k (λ i l m. g .ahead i l)
+
+-- One event more.
+going-on : (total : ℕ) (s₀ : State) (out₀ : List ℕ) (s : State) (out : List ℕ) (k : ℕ) (u : Stepped) → Going total s₀ out₀ s out k → k < total → u ≡ event flat s (eventIn out k)
+    → Going total s₀ out₀ (u .state) (written out k (u .answer) (u .sent) (u .moved .count)) (k + 1)
+unfolding played told
+going-on total s₀ out₀ s out k u g l e =
+    record {
+      room = omega (arith, g .room, written-long out k (u .answer) (u .sent) (u .moved .count));
+      within = omega arith;
+      kept = written-long out k (u .answer) (u .sent) (u .moved .count) ∙ g .kept;
+      in-order = subst (λ (x : Stepped). InOrder flat (x .state)) (sym e) (event-keeps-order flat s (eventIn out k) (g .in-order));
+      ahead = λ i m. written-keeps out k (u .answer) (u .sent) (u .moved .count) i (inr (omega arith)) ∙ g .ahead i (omega arith);
+      same-end = next (total - (k + 1)) (omega arith) ∙ g .same-end;
+    }
+  where
+    f : u ≡ event flat s (eventIn out₀ k)
+    f = e ∙ ap (event flat s) (going-reads total s₀ out₀ s out k g)
+
+    next : (left : ℕ) → total - k ≡ suc left → played flat (eventIn out₀) (total - (k + 1)) (k + 1) (u .state) (written out k (u .answer) (u .sent) (u .moved .count)) ≡ played flat (eventIn out₀) (total - k) k s out
+    next left h =
+        let p : total - (k + 1) ≡ left = omega arith in
+        rw (p, h, f)
+
+-- ---- what the code asks for on the way, from what it has found: the event, the message m at its place, the rank me
+
+pub going-room : (total : ℕ) (s₀ : State) (out₀ : List ℕ) (s : State) (out : List ℕ) (k : ℕ) → Going total s₀ out₀ s out k → k < total → 3 * k + 3 ≤ length out
+going-room total s₀ out₀ s out k g l = omega (arith, g .room)
+
+pub going-subject : (total : ℕ) (s₀ : State) (out₀ : List ℕ) (n dead c : ℕ) (ranks : List Rank) (net : List Message) (tables : List (List ℕ)) (out : List ℕ) (k : ℕ) (ev : Event) (m : Message) (me : ℕ)
+    → Going total s₀ out₀ (held n dead c ranks net tables) out k → m ≡ getD net (ev .a) zeroMessage → me ≡ subject n ev m → me < 64
+going-subject total s₀ out₀ n dead c ranks net tables out k ev m me g = subject-below (held n dead c ranks net tables) ev m me (g .in-order)
+
+pub going-ready : (total : ℕ) (s₀ : State) (out₀ : List ℕ) (n dead c : ℕ) (ranks : List Rank) (net : List Message) (tables : List (List ℕ)) (out : List ℕ) (k : ℕ) (ev : Event) (m : Message) (me : ℕ)
+    → Going total s₀ out₀ (held n dead c ranks net tables) out k → m ≡ getD net (ev .a) zeroMessage → me ≡ subject n ev m → FreshSubject flat n m me (getD ranks me zeroRank) (getD tables me [])
+going-ready total s₀ out₀ n dead c ranks net tables out k ev m me g e f = step-ready (held n dead c ranks net tables) ev m me tables (g .in-order) e f refl
+
+pub going-held : (total : ℕ) (s₀ : State) (out₀ : List ℕ) (n dead c : ℕ) (ranks : List Rank) (net : List Message) (tables : List (List ℕ)) (out : List ℕ) (k : ℕ)
+    → Going total s₀ out₀ (held n dead c ranks net tables) out k → net ≡ padded (take c net)
+going-held total s₀ out₀ n dead c ranks net tables out k g = step-held (held n dead c ranks net tables) (g .in-order)
+
+pub going-count : (total : ℕ) (s₀ : State) (out₀ : List ℕ) (n dead c : ℕ) (ranks : List Rank) (net : List Message) (tables : List (List ℕ)) (out : List ℕ) (k : ℕ)
+    → Going total s₀ out₀ (held n dead c ranks net tables) out k → c ≤ 128
+going-count total s₀ out₀ n dead c ranks net tables out k g = step-count (held n dead c ranks net tables) (g .in-order)
+
+-- ---- the next turn
+
+pub going-refused : (total : ℕ) (s₀ : State) (out₀ : List ℕ) (n dead c : ℕ) (ranks : List Rank) (net : List Message) (tables : List (List ℕ)) (out : List ℕ) (k : ℕ) (ev : Event) (m : Message) (me : ℕ) (p : Plan) (v : List ℕ)
+    → Going total s₀ out₀ (held n dead c ranks net tables) out k → k < total → ev ≡ eventIn out k → m ≡ getD net (ev .a) zeroMessage → me ≡ subject n ev m
+    → p ≡ planned flat n dead c ev m me (getD ranks me zeroRank) (getD tables me []) → v ≡ written out k (p .answer) (size (p .acted .first) + size (p .acted .second)) (p .acted .moved .count) → (p .answer ≡ 0 → ⊥)
+    → Going total s₀ out₀ (held n dead c ranks net tables) v (k + 1)
+going-refused total s₀ out₀ n dead c ranks net tables out k ev m me p v g l ee em eg ep w z =
+    let q = refused-quiet flat n dead c ev m me (getD ranks me zeroRank) (getD tables me []) p ep z in
+    let s = held n dead c ranks net tables in
+    rw (w, q .0, q .1)
+    (going-on total s₀ out₀ s out k (record { answer = p .answer; sent = 0; moved = nobody; state = s }) g l
+    (step-refused s ev m me tables p em eg refl ep z ∙ sym (event-steps-on flat s ev (g .in-order)) ∙ ap (event flat s) ee))
+
+pub going-accepted : (total : ℕ) (s₀ : State) (out₀ : List ℕ) (n dead c : ℕ) (ranks : List Rank) (net : List Message) (tables : List (List ℕ)) (out : List ℕ) (k : ℕ) (ev : Event) (m : Message) (me : ℕ) (p : Plan) (v : List ℕ) (j : Joined) (d : ℕ)
+    → Going total s₀ out₀ (held n dead c ranks net tables) out k → k < total → ev ≡ eventIn out k → m ≡ getD net (ev .a) zeroMessage → me ≡ subject n ev m
+    → p ≡ planned flat n dead c ev m me (getD ranks me zeroRank) (getD tables me []) → v ≡ written out k (p .answer) (size (p .acted .first) + size (p .acted .second)) (p .acted .moved .count) → p .answer ≡ 0
+    → j ≡ placed (posted (take c net) (ev .a) me p) → d ≡ cond (p .dies) (add dead me) dead
+    → Going total s₀ out₀ (held n d (j .count) (set ranks me (p .acted .rank)) (j .net) (set tables me (p .acted .row))) v (k + 1)
+going-accepted total s₀ out₀ n dead c ranks net tables out k ev m me p v j d g l ee em eg ep w z ej ed =
+    let s = held n dead c ranks net tables in
+    let u : State = held n d (j .count) (set ranks me (p .acted .rank)) (j .net) (set tables me (p .acted .row)) in
+    let x = size (p .acted .first) in
+    let y = size (p .acted .second) in
+    rw (w, z)
+    (going-on total s₀ out₀ s out k (record { answer = 0; sent = x + y; moved = p .acted .moved; state = u }) g l
+    (step-accepted s ev m me tables p j d x y u em eg refl ep z ej ed refl refl refl ∙ sym (event-steps-on flat s ev (g .in-order)) ∙ ap (event flat s) ee))
+
+-- All events played.
+pub going-end : (total : ℕ) (s : State) (t : List (List ℕ)) (out₀ : List ℕ) (u r : State) (out : List ℕ) (k : ℕ) → t ≡ s .tables → Going total (joined (s .group) t) out₀ u out k → total ≤ k → r ≡ u
+    → (r ≡ played flat (eventIn out₀) total 0 s out₀ .state) × (out ≡ played flat (eventIn out₀) total 0 s out₀ .answers)
+unfolding played
+going-end total s t out₀ u r out k h g l f =
+    let z : total - k ≡ 0 = omega arith in
+    let e : _≡_ {A = Run} (record { answer = 0; state = u; answers = out }) (played flat (eventIn out₀) total 0 (joined (s .group) t) out₀) = subst (λ (x : ℕ). played flat (eventIn out₀) x k u out ≡ played flat (eventIn out₀) total 0 (joined (s .group) t) out₀) z (g .same-end) in
+    let q : _≡_ {A = Run} (record { answer = 0; state = u; answers = out }) (played flat (eventIn out₀) total 0 s out₀) = e ∙ ap (λ (x : List (List ℕ)). played flat (eventIn out₀) total 0 (joined (s .group) x) out₀) h in
+    (f ∙ ap (λ (x : Run). x .state) q, ap (λ (x : Run). x .answers) q)

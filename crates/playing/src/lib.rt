@@ -1,0 +1,120 @@
+// Events one after the other: the loop that the run of a file and a call on a lent run of events share.
+use events::Event;
+use plans::Plan;
+use rank::Message;
+use rank::Rank;
+use state::Group;
+use state::State;
+ghost use mathlib.Core.Path.{_≡_};
+ghost use Prim.Native.Nat.{_+_, _*_, _≤_};
+ghost use lib.ListN.{length};
+ghost use Rattle.tree.specs.Tree.{flat};
+ghost use Rattle.rank.specs.Sends.{size};
+ghost use Rattle.state.specs.States.{joined};
+ghost use Rattle.order.specs.Between.{InOrder};
+ghost use Rattle.playing.specs.Playing.{eventIn, played, written};
+
+// The answer of a run, with the final group and its tables.
+pub struct Ran {
+    pub answer: u32,
+    pub state: State,
+}
+
+// The event at a place of a run of numbers.
+pub fn event_in(numbers: &[u32], k: usize) -> Event
+    requires { ⌜ 3 * k + 3 ≤ length (now numbers) ⌝ }
+    ensures { λ r. ⌜ r ≡ eventIn (now (numbers .entry)) k ⌝ }
+{
+    let place = 3 * k;
+    Event {
+        kind: numbers[place],
+        a: numbers[place + 1],
+        b: numbers[place + 2],
+    }
+}
+
+// Writes three numbers at a place.
+pub fn write(out: &mut [u32], k: usize, x: u32, y: u32, z: u32)
+    requires { ⌜ 3 * k + 3 ≤ length (now out) ⌝ }
+    ensures { λ _. ⌜ now (out .exit) ≡ written (now (out .entry)) k x y z ⌝ }
+{
+    let place = 3 * k;
+    out[place] = x;
+    out[place + 1] = y;
+    out[place + 2] = z;
+}
+
+// Writes an event's answer, how many messages it sent and how many ranks moved.
+fn tell(out: &mut [u32], k: usize, p: Plan)
+    requires { ⌜ 3 * k + 3 ≤ length (now out) ⌝ }
+    ensures { λ _. ⌜ now (out .exit) ≡ written (now (out .entry)) k (p .answer) (size (p .acted .first) + size (p .acted .second)) (p .acted .moved .count) ⌝ }
+{
+    let acted = p.acted;
+    let first = acted.first;
+    let second = acted.second;
+    let moved = acted.moved;
+    let sent = sets::size(first.to) as u32 + sets::size(second.to) as u32;
+    write(out, k, p.answer, sent, moved.count);
+}
+
+// A state from its parts.
+fn assemble(
+    n: u8,
+    dead: u64,
+    count: u8,
+    ranks: [Rank; 64],
+    net: [Message; 128],
+    tables: [[u8; 64]; 64],
+) -> State
+    ensures { λ r. ⌜ r ≡ joined (record { n = n; dead = dead; count = count; ranks = ranks; net = net }) tables ⌝ }
+{
+    let group = Group {
+        n,
+        dead,
+        count,
+        ranks,
+        net,
+    };
+    state::join(group, tables)
+}
+
+// Plays the events that are spelt out in the slice on a state in order; what is told of an event takes its place. It holds the state's parts
+// by themselves, so that an event stores only what changes.
+pub fn play(total: usize, out: &mut [u32], s: State) -> State
+    requires { ⌜ InOrder flat s ⌝ }
+    requires { ⌜ 3 * total ≤ length (now out) ⌝ }
+    ensures { λ r. ⌜ r ≡ played flat (eventIn (now (out .entry))) total 0 s (now (out .entry)) .state ⌝ }
+    ensures { λ r. ⌜ now (out .exit) ≡ played flat (eventIn (now (out .entry))) total 0 s (now (out .entry)) .answers ⌝ }
+{
+    let g = s.group;
+    let n = g.n;
+    let mut dead = g.dead;
+    let mut count = g.count;
+    let mut ranks = g.ranks;
+    let mut net = g.net;
+    let mut tables = state::tables_of(s);
+    let mut k: usize = 0;
+    while k < total {
+        let ev = event_in(out, k);
+        let m = net::at(net, ev.a);
+        let me = plans::subject(n, ev, m);
+        let r = ranks[me as usize];
+        let row = tables[me as usize];
+        let p = plans::plan_event(n, dead, count, ev, m, me, r, row);
+        tell(out, k, p);
+        k += 1;
+        if p.answer != 0 {
+            continue;
+        }
+        let after = group::post(net, count, ev.a, me, p);
+        net = after.net;
+        count = after.count;
+        dead = group::buried(dead, me, p.dies);
+        let acted = p.acted;
+        let rank = acted.rank;
+        let table = acted.row;
+        ranks[me as usize] = rank;
+        tables[me as usize] = table;
+    }
+    assemble(n, dead, count, ranks, net, tables)
+}
