@@ -1,6 +1,7 @@
 # Reads the files of theorems crates/CRATE/proofs/Determined.antt, then the code of the libraries. A function's theorem is named by the word
 # under which its file imports what is read of the contract: sets::with is with, tree::parent_of is parent-of, and, where two types share a
-# name, rank::Rank::ask is rank-ask and rank::Send::ask is send-ask. What `pub use` passes on is judged where it is written.
+# name, rank::Rank::ask is rank-ask and rank::Send::ask is send-ask. What `pub use` passes on is judged where it is written. The prover reads
+# no contract of a function that takes a reference to a struct: the one of batches::batch is read in its crate's proofs/Terms.antt.
 
 function complain(what) { print "determined: " what; bad = 1 }
 
@@ -55,6 +56,7 @@ FNR == 1 {
     path = $2; sub(/^.*·proofs[.]proofs[.]/, "", path); sub(/[.]Reads$/, "", path)
     if ($2 == "Rattle·" crate "·proofs.proofs." path ".Reads") alias[crate, path] = $4
 }
+!code && /^use .*[.]Terms as / { if ($2 == "Rattle·" crate "·proofs.proofs.Terms") alias[crate, $4] = $4 }
 !code && !/^ / { named = "" }
 !code && /^pub [^ ]+ : / { named = $2; sub(/^pub [^ ]+ : /, "") }
 !code && named != "" {

@@ -1,7 +1,8 @@
 //! The programs beside the model: what is printed of fresh random schedules, a difference made as small as can be; marks and climbs on fresh
-//! random views; who moved, by marks and by events; the views after deaths told in two orders; and pictures of fresh random views and damaged
-//! texts.
+//! random views; who moved, by marks and by events; the views after deaths told in two orders; pictures of fresh random views and damaged
+//! texts; and fresh random batches, whole and cut into parts.
 
+use crate::batch_cases;
 use crate::cases::{answers, lines, Case};
 use crate::fail;
 use crate::file::{read, write, MOST};
@@ -9,6 +10,7 @@ use crate::news::two_orders;
 use crate::picture_cases;
 use crate::pictures::views;
 use crate::random::{schedule, Random};
+use crate::random_batches;
 use crate::random_views::cases;
 use crate::script::script;
 use std::io::Write;
@@ -177,5 +179,28 @@ pub fn compare_pictures(program: &str, seed: u64, count: u64) -> bool {
         read += ours.iter().filter(|line| line.starts_with("read 0 ")).count();
     }
     println!("{count} views, {written} of them written, and {count} texts, {read} of them read, no difference");
+    true
+}
+
+/// Compares `count` runs of events in one batch and in parts, from the seed on, some in one run of the program; true when there was no
+/// difference.
+pub fn compare_batches(program: &str, seed: u64, count: u64) -> bool {
+    // the program reads no more than 262,144 bytes, and a case has less than 13,000
+    let some = 20;
+    let (mut calls, mut same) = (0, 0);
+    for from in (0..count).step_by(some) {
+        let cases = random_batches::cases(seed + from, (count - from).min(some as u64));
+        let ours: Vec<String> = cases.iter().map(batch_cases::Case::answer).collect();
+        let theirs = answer(program, batch_cases::text(&cases).as_bytes());
+        if ours.concat() != theirs {
+            let at = (1..ours.len()).find(|k| !theirs.starts_with(&ours[..*k].concat())).unwrap_or(ours.len()) - 1;
+            println!("seed {}:\n{}the model:\n{}", seed + from + at as u64, batch_cases::text(&cases[at..=at]), ours[at]);
+            println!("the program:\n{}", theirs.get(ours[..at].concat().len()..).unwrap_or("nothing"));
+            return false;
+        }
+        calls += cases.iter().map(|case| 1 + case.parts.len()).sum::<usize>();
+        same += ours.iter().filter(|answer| answer.ends_with("same\n")).count();
+    }
+    println!("{count} runs of events, {same} of them the same whole and in parts, {calls} calls, no difference");
     true
 }

@@ -23,7 +23,7 @@ fn byte(word: &str) -> Result<u8, String> {
 }
 
 fn event(kind: &str, a: &str, b: &str) -> Result<Event, String> {
-    Ok(Event { kind: byte(kind)?, a: number(a, u32::MAX)?, b: number(b, u32::MAX)? })
+    Ok(Event { kind: byte(kind)?.into(), a: number(a, u32::MAX)?, b: number(b, u32::MAX)? })
 }
 
 /// The schedule that a text describes, or what is wrong with it, and in which line.

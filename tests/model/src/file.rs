@@ -9,7 +9,7 @@ pub fn write(n: u8, events: &[Event]) -> Vec<u8> {
     let mut bytes = b"AGR\x01\x00".to_vec();
     bytes.push(n);
     for e in events {
-        bytes.push(e.kind);
+        bytes.push(u8::try_from(e.kind).expect("a kind of one byte"));
         bytes.extend(e.a.to_le_bytes());
         bytes.extend(e.b.to_le_bytes());
     }
@@ -41,7 +41,7 @@ pub fn read(bytes: &[u8]) -> Result<(u32, Vec<Event>), u32> {
         return Err(23);
     }
     let events = bytes[6..].chunks(9);
-    let events = events.map(|e| Event { kind: e[0], a: number(&e[1..5]), b: number(&e[5..9]) });
+    let events = events.map(|e| Event { kind: e[0].into(), a: number(&e[1..5]), b: number(&e[5..9]) });
     Ok((bytes[5] as u32, events.collect()))
 }
 

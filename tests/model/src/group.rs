@@ -20,7 +20,7 @@ pub struct Group {
 
 #[derive(Clone, Copy, PartialEq, Debug)]
 pub struct Event {
-    pub kind: u8,
+    pub kind: u32,
     pub a: u32,
     pub b: u32,
 }
@@ -123,7 +123,7 @@ impl Group {
 mod tests {
     use super::*;
 
-    fn say(g: &mut Group, kind: u8, a: u32, b: u32) -> u32 {
+    fn say(g: &mut Group, kind: u32, a: u32, b: u32) -> u32 {
         g.event(Event { kind, a, b }).number
     }
 

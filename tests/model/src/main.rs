@@ -1,4 +1,5 @@
-//! A second opinion on schedules, marks, climbs and pictures, written from document 01 and requests 2026-01, 2026-03, 2026-04 and 2026-06 alone.
+//! A second opinion on schedules, batches, marks, climbs and pictures, written from document 01 and requests 2026-01, 2026-03, 2026-04, 2026-06
+//! and 2026-07 alone.
 //!
 //!     model listing < FILE                     the listing that FILE must have
 //!     model write [EVENTS] > FILE              the schedule that a text describes (events.rs)
@@ -15,10 +16,15 @@
 //!     model compare-orders PROGRAM SEED COUNT  the same of random schedules with every death told after them in one order and in another
 //!     model pictures SEED COUNT DIR            COUNT random views to write and texts to read as DIR/stdin, what must answer them as DIR/stdout
 //!     model compare-pictures PROGRAM SEED COUNT  the program's answers to such beside the model's
+//!     model batches SEED COUNT > CASES         COUNT random runs of events, to be run whole and cut into parts
+//!     model batch-answers < CASES              the lines that must answer them
+//!     model compare-batches PROGRAM SEED COUNT  the program's answers to such beside the model's
 //!
 //! It ends with 1 where a text is refused or a comparison finds a difference, 2 for a wrong use, 3 where reading or
 //! writing failed.
 
+mod batch_cases;
+mod batches;
 mod cases;
 mod compare;
 mod events;
@@ -28,6 +34,7 @@ mod news;
 mod picture_cases;
 mod pictures;
 mod random;
+mod random_batches;
 mod random_views;
 mod rank;
 mod script;
@@ -138,12 +145,16 @@ fn main() {
         ["compare-orders", program, seed, count] => ends(compare::compare_orders(program, number(seed), number(count))),
         ["pictures", seed, count, dir] => pictures(number(seed), number(count), dir),
         ["compare-pictures", program, seed, count] => ends(compare::compare_pictures(program, number(seed), number(count))),
+        ["batches", seed, count] => print(batch_cases::text(&random_batches::cases(number(seed), number(count))).as_bytes()),
+        ["batch-answers"] => print(batch_cases::answers(&said(INPUT, input(), batch_cases::read)).as_bytes()),
+        ["compare-batches", program, seed, count] => ends(compare::compare_batches(program, number(seed), number(count))),
         _ => fail(
             2,
             "listing | write [EVENTS] | schedule SEED | data SEED COUNT DIR | compare PROGRAM SEED COUNT | \
              views SEED COUNT | answers | compare-views PROGRAM SEED COUNT | compare-events PROGRAM SEED COUNT | \
              pictures-of | compare-pictures-of PROGRAM SEED COUNT | compare-orders PROGRAM SEED COUNT | \
-             pictures SEED COUNT DIR | compare-pictures PROGRAM SEED COUNT",
+             pictures SEED COUNT DIR | compare-pictures PROGRAM SEED COUNT | batches SEED COUNT | batch-answers | \
+             compare-batches PROGRAM SEED COUNT",
         ),
     }
 }

@@ -93,7 +93,7 @@ fn likely(random: &mut Random, g: &Group, manner: &Manner) -> Option<Event> {
 
 /// Any numbers, near the limits more often than not.
 fn garbage(random: &mut Random, g: &Group) -> Event {
-    let kind = random.below(8) as u8;
+    let kind = random.below(8);
     let number = |random: &mut Random| match random.below(6) {
         0 => random.next() as u32,
         1 => g.n,

@@ -23,9 +23,9 @@ pub struct Rank {
     me: u32,
     pub phase: Phase,
     pub marks: Set,
-    heard: Set,
-    owed: Set,
-    word: u32,
+    pub heard: Set,
+    pub owed: Set,
+    pub word: u32,
     pub result: u32,
 }
 

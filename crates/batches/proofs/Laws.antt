@@ -1,0 +1,2 @@
+-- A batch along its code.
+pub mod Handling

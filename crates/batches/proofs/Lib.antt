@@ -1,0 +1,6 @@
+pub mod Laws
+pub mod Held
+pub mod Terms
+pub mod Batching
+pub mod Cases
+pub mod Determined
