@@ -31,10 +31,12 @@ use Rattle.order.specs.Order.{proper, clauses, rankInOrder, isWithin, memberInO
 use Rattle.plans.specs.Plans.{subject, refusing, accepting, afterwards, fitting, delivered, acting, planned}
 use Rattle.group.specs.Events.{posted, applied, refused, carried, subjectOf, planOf, stepped, event}
 use Rattle.group.specs.Reaching.{Reaches, begun, next}
-use Rattle.playing.specs.Playing.{written, told, played}
+use Rattle.playing.specs.Playing.{Run, written, told}
 use Rattle.files.specs.Files.{byteAt, shortAt, numberAt, eventAt, eventsIn, wrongMark, wrongVersion, broken, header, numberOf}
 use Rattle.files.specs.Cases.{file}
-use Rattle.schedule.specs.Runs.{refusedRun, opened, run}
+use Rattle.schedule.specs.Runs.{refusedRun}
+use Rattle.schedule.specs.Steps.{stepping, steppedOn, steppedRun}
+use Rattle.schedule.proofs.Laws.Steps.{run-steps}
 use Rattle.schedule.specs.Samples.{then, three}
 use Rattle.schedule.proofs.Reaching.{run-reaches}
 use Rattle.agreement.specs.Progress.{Lives, Quiet, AllEntered, AllDeathsKnown, AllDecided}
@@ -42,14 +44,16 @@ use Rattle.agreement.specs.Agreement.{isEntry, hasEntered, wordOf}
 use Rattle.agreement.specs.Witnesses.{mourned, absent, busy, untold, bereft, slice, runs, ended, isQuiet, allEntered, allDeathsKnown, allDecided, shown, LivesWith, DiedWith, witnesses}
 
 pub the-tests-pass : all witnesses ≡ true
-unfolding has only union meet minus add below setOf count largest smallest listed every all andThen movedBelow wrongSize same lineage ancestors half flat parent children row entry fresh moves sized moved proper clauses rankInOrder becoming combining concluding owing parentOf childrenOf awaiting freshRank hearing viewing inPhase saying deciding settled done settling entering noting raised takingUp lowered takingDown asked takingAsk renewing regathering orphaned inheriting bereaved noticing silent reports tells asks letter letters combine subject refusing accepting afterwards fitting delivered acting planned posted joining applied refused carried subjectOf planOf stepped padded without isWithin memberInOrder zeroRecord strangerInOrder seatInOrder seatInOrderAt messageInOrder zeroPlace placeInOrder placeInOrderAt inOrder event namesRank namesPlace wrongKind wrongRank noMessage isDead notOutside isLiving isLast bothLive lateRefusal refusal firstRank firstRow freshState started byteAt shortAt numberAt eventAt eventsIn wrongMark wrongVersion broken header numberOf written told played refusedRun opened run then file three mourned absent busy untold bereft slice runs ended isQuiet allEntered allDeathsKnown allDecided shown witnesses
+unfolding has only union meet minus add below setOf count largest smallest listed every all andThen movedBelow wrongSize same lineage ancestors half flat parent children row entry fresh moves sized moved proper clauses rankInOrder becoming combining concluding owing parentOf childrenOf awaiting freshRank hearing viewing inPhase saying deciding settled done settling entering noting raised takingUp lowered takingDown asked takingAsk renewing regathering orphaned inheriting bereaved noticing silent reports tells asks letter letters combine subject refusing accepting afterwards fitting delivered acting planned posted joining applied refused carried subjectOf planOf stepped padded without isWithin memberInOrder zeroRecord strangerInOrder seatInOrder seatInOrderAt messageInOrder zeroPlace placeInOrder placeInOrderAt inOrder event namesRank namesPlace wrongKind wrongRank noMessage isDead notOutside isLiving isLast bothLive lateRefusal refusal firstRank firstRow freshState started byteAt shortAt numberAt eventAt eventsIn wrongMark wrongVersion broken header numberOf written told stepping steppedOn steppedRun refusedRun then file three mourned absent busy untold bereft slice runs ended isQuiet allEntered allDeathsKnown allDecided shown witnesses
 the-tests-pass = refl
 
 -- ---- from the tests to the words
 
 reached-end : (f : List ℕ) → runs f ≡ true → Reaches flat (byteAt f 5) (ended f)
 unfolding runs ended
-reached-end f t = run-reaches f slice (eqb-true (run flat f slice .answer) 0 t)
+reached-end f t =
+    let e = run-steps f slice in
+    subst (Reaches flat (byteAt f 5)) (ap (λ (r : Run). r .state) e) (run-reaches f slice (ap (λ (r : Run). r .answer) e ∙ eqb-true (steppedRun f slice .answer) 0 t))
 
 quiet-end : (s : State) → isQuiet s ≡ true → Quiet s
 unfolding isQuiet

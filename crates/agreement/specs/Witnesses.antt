@@ -14,7 +14,7 @@ use Rattle.state.specs.declared.State.{State}
 use Rattle.state.specs.States.{rankAt}
 use Rattle.state.specs.Starting.{started}
 use Rattle.group.specs.Events.{event}
-use Rattle.schedule.specs.Runs.{run}
+use Rattle.schedule.specs.Steps.{steppedRun}
 use Rattle.files.specs.Cases.{file}
 use Rattle.schedule.specs.Samples.{then, three}
 use Rattle.agreement.specs.Agreement.{Decides}
@@ -85,10 +85,10 @@ unfoldable pub slice : List ℕ
 slice = replicate 63 0
 
 unfoldable pub runs : List ℕ → Bool
-runs f = eqb (run flat f slice .answer) 0
+runs f = eqb (steppedRun f slice .answer) 0
 
 unfoldable pub ended : List ℕ → State
-ended f = run flat f slice .state
+ended f = steppedRun f slice .state
 
 -- The words of the claim as tests.
 unfoldable pub isQuiet : State → Bool

@@ -14,13 +14,14 @@ use Rattle.net.specs.Net.{inFlight}
 use Rattle.events.specs.Events.{eventOf}
 use Rattle.state.specs.declared.State.{State}
 use Rattle.state.specs.States.{joined, rankAt}
-use Rattle.state.specs.Starting.{started}
+use Rattle.state.specs.Starting.{freshState, started}
 use Rattle.group.specs.declared.Stepped.{Stepped}
-use Rattle.group.specs.Events.{event}
-use Rattle.playing.specs.Playing.{Run, played}
+use Rattle.group.specs.Events.{stepped, event}
+use Rattle.playing.specs.Playing.{Run}
 use Rattle.files.specs.Files.{eventAt}
 use Rattle.files.specs.Cases.{file}
 use Rattle.schedule.specs.Runs.{run}
+use Rattle.schedule.specs.Steps.{stepping}
 use Rattle.schedule.specs.Samples.{then, three}
 use Rattle.listing.specs.Listings.{report}
 
@@ -66,14 +67,14 @@ threeListing =
 
 -- The example after its first k events, and its rank i.
 unfoldable pub later : ℕ → State
-later k = played flat (eventAt three) k 0 (started flat 3 .state) [] .state
+later k = stepping (eventAt three) k 0 (freshState flat 3) [] .state
 
 unfoldable pub seen : ℕ → ℕ → Rank
 seen k i = rankAt (later k) i
 
 -- Event k of the example is accepted.
 unfoldable pub goes : ℕ → Bool
-goes k = eqb (event flat (later k) (eventAt three k) .answer) 0
+goes k = eqb (stepped flat (later k) (eventAt three k) .answer) 0
 
 unfoldable pub one : State
 one = started flat 1 .state
@@ -107,11 +108,11 @@ crowded =
 -- Rank 2 of four, and rank 3 of five: it has reported, every rank below it has crashed, and it is told of them one after the other, until it is
 -- the root and asks the last rank, which knows no death.
 unfoldable pub four : State
-four = played flat (eventAt (file 4 (then 1 2 7 (then 3 0 0 (then 3 1 0 (then 4 2 0 (then 4 2 1 []))))))) 5 0 (started flat 4 .state) [] .state
+four = stepping (eventAt (file 4 (then 1 2 7 (then 3 0 0 (then 3 1 0 (then 4 2 0 (then 4 2 1 []))))))) 5 0 (freshState flat 4) [] .state
 
 unfoldable pub five : State
 five =
-    played flat (eventAt (file 5 (then 1 3 7 (then 3 0 0 (then 3 1 0 (then 3 2 0 (then 4 3 0 (then 4 3 1 (then 4 3 2 []))))))))) 7 0 (started flat 5 .state) [] .state
+    stepping (eventAt (file 5 (then 1 3 7 (then 3 0 0 (then 3 1 0 (then 3 2 0 (then 4 3 0 (then 4 3 1 (then 4 3 2 []))))))))) 7 0 (freshState flat 5) [] .state
 
 -- An event is accepted, and moves these ranks, counted so often.
 unfoldable pub movesThese : Stepped → ℕ → ℕ → Bool
@@ -164,7 +165,7 @@ witnesses =
     -- ASK: rank 2 marks rank 0, owes rank 1, and reports to it.
     ∷ (goes 8 && has (seen 9 2 .marks) 0 && has (seen 9 2 .owed) 1 && eqb (seen 9 2 .phase) 2)
     -- moved of a notice: in rank 1's view of three, and in rank 2's by the ASK, rank 1 moves.
-    ∷ (movesThese (event flat (later 6) (eventAt three 6)) 0b10 1 && movesThese (event flat (later 8) (eventAt three 8)) 0b10 1)
+    ∷ (movesThese (stepped flat (later 6) (eventAt three 6)) 0b10 1 && movesThese (stepped flat (later 8) (eventAt three 8)) 0b10 1)
     -- moved of an ASK, the union over its marks: of 1, then 2 and 3, though the second mark marks 1.
     ∷ (movesThese (event flat four (eventOf 2 1 0)) 0b1110 3 && has (rankAt (event flat four (eventOf 2 1 0) .state) 3 .marks) 1)
     -- and the sum over its marks: 1, then 2 and 3, then 3 and 4, so 3 counts twice.

@@ -15,7 +15,7 @@ use Rattle.state.specs.States.{rankAt, rowAt}
 use Rattle.group.specs.Events.{event}
 use Rattle.playing.specs.Playing.{Run}
 use Rattle.files.specs.Cases.{file}
-use Rattle.schedule.specs.Runs.{run}
+use Rattle.schedule.specs.Steps.{steppedRun}
 use Rattle.schedule.specs.Samples.{then}
 use Rattle.news.specs.News.{isIn, byNotice, byAsk, allTold, brings}
 
@@ -61,7 +61,7 @@ asking = file 3 (then 1 2 7 (then 1 1 6 (then 2 0 0 (then 3 0 0 (then 4 1 0 []))
 
 -- The run of a schedule of up to five events, and what it writes: answer, sent and moved for each.
 unfoldable pub wholeRun : List ℕ → Run
-wholeRun f = run flat f (replicate 15 0)
+wholeRun f = steppedRun f (replicate 15 0)
 
 unfoldable pub writes : List ℕ → List ℕ → Bool
 writes f wanted = eqb (wholeRun f .answer) 0 && same (wholeRun f .answers) wanted

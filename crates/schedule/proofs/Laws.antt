@@ -2,3 +2,4 @@
 pub mod Opening
 pub mod Ending
 pub mod Slices
+pub mod Steps

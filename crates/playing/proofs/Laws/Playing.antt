@@ -26,10 +26,15 @@ pub played-none : (anc : ℕ → ℕ) (events : ℕ → Event) (k : ℕ) (s : St
 unfolding played
 played-none anc events k s out = refl
 
+pub played-tells : (anc : ℕ → ℕ) (events : ℕ → Event) (left k : ℕ) (s : State) (out : List ℕ) (r : Stepped) → event anc s (events k) ≡ r
+    → played anc events (suc left) k s out ≡ played anc events left (k + 1) (r .state) (told out k r)
+unfolding played
+played-tells anc events left k s out r e = rw e
+
 pub played-next : (anc : ℕ → ℕ) (events : ℕ → Event) (left k : ℕ) (s : State) (out : List ℕ) (r : Stepped) → event anc s (events k) ≡ r
     → played anc events (suc left) k s out ≡ played anc events left (k + 1) (r .state) (written out k (r .answer) (r .sent) (r .moved .count))
-unfolding played told
-played-next anc events left k s out r e = rw e
+unfolding told
+played-next = played-tells
 
 -- Events in two turns.
 pub played-splits : (anc : ℕ → ℕ) (events : ℕ → Event) (i j k : ℕ) (s : State) (out : List ℕ)
