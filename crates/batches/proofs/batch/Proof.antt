@@ -1,6 +1,8 @@
--- `batches::batch` meets its contract: a walk of its MIR, by hand. The borrow of the state is opened and the whole record is copied out of its cell; `handle`, of which the proof knows only that it meets its contract, is called on the two slices and that copy; the state that `handle` returned is stored in the cell; and the borrow is closed at it.
--- `handle` is called at the two slices' own lifetimes, shares and ghost names: both are given up for good, and what `handle` says of the last list is what `batch` says of `out` at exit. The cell stands at the raw form of the struct's type, and is read and written at the type that the MIR names.
--- Assumes nothing.
+-- `batches::batch` meets its contract: a walk of its MIR, by hand. The borrow of the state is opened and the whole record is copied out of
+-- its cell; `handle`, of which the proof knows only that it meets its contract, is called on the two slices and that copy; the state that
+-- `handle` returned is stored in the cell; and the borrow is closed at it. `handle` is called at the two slices' own lifetimes, shares and
+-- ghost names: both are given up for good, and what `handle` says of the last list is what `batch` says of `out` at exit. The cell stands
+-- at the raw form of the struct's type, and is read and written at the type that the MIR names. Assumes nothing.
 use mathlib.Core.Path.{_≡_, refl, ap}
 use Prim.Native.Nat.{ℕ, _<_, _^_}
 use mathlib.Core.List.{[], _∷_, List}
@@ -154,7 +156,8 @@ module _ {M : Type 1} (𝓤 : URA M) (H : Heap 𝓤) (A : Atoms 𝓤) (W : Given
         opens ! tt T.the-row {h = h} b o (λ vs. spelt ! T.the-row (Is T.the-row) (shows 𝓤 H A T.the-row) (LL.vals T.the-type T′.the-laws) (LL.tells T.the-type T′.the-laws) fullShare h vs b o $
         use1 W (‵ (fat fullShare T′.mir b o (mach h))) (W .laws .raw-at fullShare T′.mir b o (mach h)) $
         move ! (1 ∷ []) $ peeks ! T.the-row (Is T.the-row) (shows 𝓤 H A T.the-row) h (mach h ∷ []) (λ g. move ! (1 ∷ 0 ∷ []) $
-        -- [the state's cell; what it owns; the open borrow; obs; auth; true; out's token; events' token; true; what out owns; what events owns; _7; …; _6; …; _5; …; _4; …; _3; …; _2; …; _1; …; room for _0; …]
+        -- [the state's cell; what it owns; the open borrow; obs; auth; true; out's token; events' token; true; what out owns; what events
+        -- owns; _7; …; _6; …; _5; …; _4; …; _3; …; _2; …; _1; …; room for _0; …]
         assigns ! (of-opd ! (load ! (from ! (hop ! (look ! 19 refl) (stop !))) (look ! 0 refl))) (from ! (stop !)) (init ! 17 refl (typed 𝓤 H A W h g)) $
         assigns ! (addr ! (from ! (fld ! refl (hop ! (look-in ! 21 (sub ! 0 refl (whole !))) (stop !))))) (from ! (stop !)) (init ! 13 refl (tt, tt)) $
         assigns ! (agg ! (and-then ! (load ! (from ! (stop !)) (look ! 13 refl)) (and-then ! (load ! (from ! (fld ! refl (stop !))) (look-in ! 21 (sub ! 1 refl (whole !)))) (no-more !)))) (from ! (stop !)) (init ! 11 refl (tt, (tt, (record { fits = y-room .0 }, tt)))) $
@@ -166,7 +169,8 @@ module _ {M : Type 1} (𝓤 : URA M) (H : Heap 𝓤) (A : Atoms 𝓤) (W : Given
         split ! $ move ! (1 ∷ []) $ use1 W (some (λ (zs : Unit {0} × (List ℕ × (Unit {0} × Unit {0}))). ‵ (lasts handle.ended (κ, (κ′, tt)) (x, (y, (h, tt))) zs) ⊛ raw (fact 𝓤 (r .answer ≡ ran .answer)) ⊛ raw (fact 𝓤 (r .state ≡ ran .state)) ⊛ raw (fact 𝓤 (zs .1 .0 ≡ ran .answers)))) (id⊢ 𝓤 _) $ pick ! (λ zs.
         split ! $ move ! (1 ∷ []) $ split ! $ heard ! (r .answer ≡ ran .answer) (λ e₁. split ! $ heard ! (r .state ≡ ran .state) (λ e₂. heard ! (zs .1 .0 ≡ ran .answers) (λ e₃.
         fsplit ! $ drop ! $ fsplit ! $ fsplit ! $ move ! (1 ∷ []) $ feqL ! (λ l. move ! (2 ∷ []) $ split ! $ move ! (1 ∷ []) $
-        -- [what the result owns; the tokens; the last list; true; the state's cell; the open borrow; obs; auth; true; true; _7; …; _6; …; room for _5; …; _4; …; _3; …; _2; …; _1; …; room for _0; …]
+        -- [what the result owns; the tokens; the last list; true; the state's cell; the open borrow; obs; auth; true; true; _7; …; _6; …; room
+        -- for _5; …; _4; …; _3; …; _2; …; _1; …; room for _0; …]
         peeks ! Q.the-row (Is Q.the-row) (shows 𝓤 H A Q.the-row) r (w ∷ []) (λ is.
         land ! (from ! (stop !)) (init ! 14 refl (LL.lawful Q.the-type Q′.the-laws 𝓤 H A W .typed r _ is .0)) $ rewrite ! 14 (λ (u : Val). ‵ (fat fullShare Q′.mir l₅ 0 u)) (ap only (LL.tells Q.the-type Q′.the-laws r _ is)) refl $
         assigns ! (of-opd ! (load ! (from ! (fld ! refl (stop !))) (look-in ! 14 (sub ! 1 refl (whole !))))) (from ! (hop ! (look ! 18 refl) (stop !))) (store ! 4 refl (typed 𝓤 H A W (r .state) (state-is r w is))) $

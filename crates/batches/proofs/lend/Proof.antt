@@ -1,6 +1,7 @@
--- `batches::lend` meets its contract: a walk of its MIR, by hand. The state is copied into a local, the local is lent to `batch` for a lifetime that is made for the call, and once that lifetime is over it is read again, at the last value that `batch` says, and returned beside the answer.
--- All that the proof knows of `batch` is that it meets its contract. It is called at the two slices' own lifetimes, shares and ghost names: both are given up for good.
--- Assumes nothing.
+-- `batches::lend` meets its contract: a walk of its MIR, by hand. The state is copied into a local, the local is lent to `batch` for a
+-- lifetime that is made for the call, and once that lifetime is over it is read again, at the last value that `batch` says, and returned
+-- beside the answer. All that the proof knows of `batch` is that it meets its contract. It is called at the two slices' own lifetimes,
+-- shares and ghost names: both are given up for good. Assumes nothing.
 use mathlib.Core.Path.{_≡_, refl, ap}
 use Prim.Native.Nat.{ℕ, _<_, _^_}
 use mathlib.Core.List.{[], _∷_, List}
@@ -157,7 +158,8 @@ module _ {M : Type 1} (𝓤 : URA M) (H : Heap 𝓤) (A : Atoms 𝓤) (W : Given
         -- the local is lent for a lifetime ν of the call
         move ! (10 ∷ []) $ use1 W (‵ (mem T.the-row .lies h l₄ 0)) (laid 𝓤 H A W h l₄ 0 g) $ lft-new ! tt (λ ν. move ! (1 ∷ []) $
         use1 W (later (some (λ (γ : GName). ‵ (Lent l₄ ν γ) ⊛ ‵ (flent (ν ∷ []) (Body (mem T.the-row) l₄ 0 γ))))) (lends-ref 𝓤 H A W T.the-row (named 2) (ν ∷ []) h l₄ 0) $ await ! tt $ pick ! (λ γ. split ! $
-        -- [the reference; the lender's part; ν's token; _9; …; _8; …; _7; …; _6; …; room for _5; …; …; _3; …; _2; …; _1; …; room for _0; …; the tokens; what the three own]: `batch` takes the three tokens, and what the slices and the reference own
+        -- [the reference; the lender's part; ν's token; _9; …; _8; …; _7; …; _6; …; room for _5; …; …; _3; …; _2; …; _1; …; room for _0; …;
+        -- the tokens; what the three own]: `batch` takes the three tokens, and what the slices and the reference own
         move ! (23 ∷ []) $ fsplit ! $ move ! (1 ∷ []) $ fsplit ! $ move ! (25 ∷ []) $ split ! $ move ! (1 ∷ []) $ split ! $
         move ! (2 ∷ 0 ∷ 8 ∷ 5 ∷ 3 ∷ 6 ∷ []) $ group ! 6 $ use1 W (raw (Batch 𝓤 H A at-mem run .pre (to-batch l₄ ν γ))) (asks l₄ ν γ) $
         calls-at ! fm (Batch 𝓤 H A at-mem run) known (to-batch l₄ ν γ) (and-then ! (load ! (from ! (stop !)) (look ! 19 refl)) (and-then ! (load ! (from ! (stop !)) (look ! 8 refl)) (and-then ! (load ! (from ! (stop !)) (look ! 6 refl)) (no-more !)))) (λ w.
@@ -166,7 +168,8 @@ module _ {M : Type 1} (𝓤 : URA M) (H : Heap 𝓤) (A : Atoms 𝓤) (W : Given
         split ! $ move ! (1 ∷ []) $ use1 W (some (λ (zs : Unit {0} × (List ℕ × (State × Unit {0}))). ‵ (lasts batch.ended (κ, (κ′, (ν ∷ [], tt))) (x, (y, (ref l₄ γ, tt))) zs) ⊛ raw (fact 𝓤 (n ≡ ran .answer)) ⊛ raw (fact 𝓤 (zs .1 .1 .0 ≡ ran .state)) ⊛ raw (fact 𝓤 (zs .1 .0 ≡ ran .answers)))) (id⊢ 𝓤 _) $ pick ! (λ zs.
         split ! $ move ! (1 ∷ []) $ split ! $ heard ! (n ≡ ran .answer) (λ e₁. split ! $ heard ! (zs .1 .1 .0 ≡ ran .state) (λ e₂. heard ! (zs .1 .0 ≡ ran .answers) (λ e₃.
         fsplit ! $ drop ! $ fsplit ! $ fsplit ! $ move ! (1 ∷ []) $ feqL ! (λ l. move ! (1 ∷ []) $ fsplit ! $ move ! (3 ∷ []) $ split ! $ move ! (1 ∷ []) $
-        -- [the answer; the tokens; the last state; true; the last list; true; the state passed; the lender's part; _9; …; _8; …; _7; …; _6; …; room for _5; …; …; _3; …; _2; …; _1; …; room for _0; …]
+        -- [the answer; the tokens; the last state; true; the last list; true; the state passed; the lender's part; _9; …; _8; …; _7; …; _6; …;
+        -- room for _5; …; …; _3; …; _2; …; _1; …; room for _0; …]
         peeks ! u32 (Is u32) (shows 𝓤 H A u32) n (w ∷ []) (λ is.
         land ! (from ! (stop !)) (init ! 16 refl (uint-lawful 𝓤 H A W w32 .typed n _ is .0)) $ rewrite ! 16 (λ (u : Val). ‵ (fat fullShare (tyInt w32) l₅ 0 u)) (ap only (is .0)) refl $
         -- the lifetime is ended, and the local comes back at the last state
@@ -174,7 +177,8 @@ module _ {M : Type 1} (𝓤 : URA M) (H : Heap 𝓤) (A : Atoms 𝓤) (W : Given
         use3 W (later (‵ (mem T.the-row .lies (zs .1 .1 .0) l₄ 0))) (ref-back 𝓤 H A W T.the-row (ν ∷ []) γ (zs .1 .1 .0) l₄ 0) $ await ! tt $
         use1 W (‵ (fat fullShare T′.mir l₄ 0 (mach (zs .1 .1 .0))) ⊛ ‵ (T.the-row .own (zs .1 .1 .0) (mach (zs .1 .1 .0) ∷ []))) (taken 𝓤 H A W (zs .1 .1 .0) l₄ 0) $ split ! $
         move ! (1 ∷ []) $ peeks ! T.the-row (Is T.the-row) (shows 𝓤 H A T.the-row) (zs .1 .1 .0) (mach (zs .1 .1 .0) ∷ []) (λ g′.
-        -- [what the state owns; _4; true; out's token; events' token; the answer; true; the last list; true; the state passed; _9; …; _8; …; _7; …; _6; …; _5; …; …; _3; …; _2; …; _1; …; room for _0; …]
+        -- [what the state owns; _4; true; out's token; events' token; the answer; true; the last list; true; the state passed; _9; …; _8; …;
+        -- _7; …; _6; …; _5; …; …; _3; …; _2; …; _1; …; room for _0; …]
         assigns ! (of-opd ! (load ! (from ! (stop !)) (look ! 1 refl))) (from ! (stop !)) (init ! 10 refl (typed 𝓤 H A W (zs .1 .1 .0) g′)) $
         assigns ! (agg ! (and-then ! (load ! (from ! (stop !)) (look ! 18 refl)) (and-then ! (load ! (from ! (stop !)) (look ! 10 refl)) (no-more !)))) (from ! (stop !)) (init ! 27 refl (LL.lawful Q.the-type Q′.the-laws 𝓤 H A W .typed (told n (zs .1 .1 .0)) _ (made n (zs .1 .1 .0) (is .1) g′) .0)) $
         returns ! (look ! 27 refl) $ forget ! 1 refl $ forget ! 10 refl $ forget ! 12 refl $ forget ! 14 refl $ forget ! 16 refl $ forget ! 18 refl $ forget ! 21 refl $ forget ! 23 refl $ forget ! 25 refl $ forget ! 27 refl $
