@@ -1,11 +1,12 @@
 -- Events by the handful: a lent run of events, numbers of 32 bits, three an event, on a state that is lent. Over any ancestor sets.
-use Prim.Native.Nat.{ℕ, zero, suc, _*_, _/_, _%_}
+use Prim.Native.Nat.{ℕ, _*_, _/_, _%_}
 use mathlib.Core.Bool.{Bool, cond, not}
 use mathlib.Core.List.{List}
 use lib.Dec.{eqb, ltb}
 use lib.ListN.{length}
+use Rattle.events.specs.Events.{eventOf}
 use Rattle.state.specs.declared.State.{State}
-use Rattle.playing.specs.Playing.{Run, eventIn, written, played}
+use Rattle.playing.specs.Playing.{Run, eventIn, played, spelt}
 
 -- How many events a run of numbers has.
 unfoldable pub eventsOf : List ℕ → ℕ
@@ -30,7 +31,6 @@ batch anc numbers out s =
     (cond (tooShort numbers out) (refusedBatch 41 out s)
     (played anc (eventIn numbers) (eventsOf numbers) 0 s out))
 
--- The first k events refused with one number: what is told where the state is of a wrong size or not in order.
-unfoldable pub refusedEach : ℕ → ℕ → List ℕ → List ℕ
-refusedEach number zero out = out
-refusedEach number (suc k) out = written (refusedEach number k out) k number 0 0
+-- The first k events refused with one number, sent 0 and moved 0: what is told where the state is of a wrong size or not in order.
+abbrev pub refusedEach : ℕ → ℕ → List ℕ → List ℕ
+refusedEach number k out = spelt (λ i. eventOf number 0 0) k out

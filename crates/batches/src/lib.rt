@@ -17,7 +17,7 @@ fn spell(events: &[u32], total: usize, out: &mut [u32])
     let mut k: usize = 0;
     while k < total {
         let ev = playing::event_in(events, k);
-        playing::write(out, k, ev.kind, ev.a, ev.b);
+        playing::put_three(out, k, ev.kind, ev.a, ev.b);
         k += 1;
     }
 }
@@ -29,7 +29,7 @@ fn refuse_each(number: u32, total: usize, out: &mut [u32])
 {
     let mut k: usize = 0;
     while k < total {
-        playing::write(out, k, number, 0, 0);
+        playing::put_three(out, k, number, 0, 0);
         k += 1;
     }
 }

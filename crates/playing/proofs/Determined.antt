@@ -8,7 +8,7 @@ use Rattle.events.specs.declared.Event.{Event}
 use Rattle.state.specs.declared.State.{State}
 use Rattle.playing.specs.declared.Ran.{Ran}
 use Rattle.playing.proofs.event_in.Reads as event-in
-use Rattle.playing.proofs.write.Reads as write
+use Rattle.playing.proofs.put_three.Reads as put-three
 use Rattle.playing.proofs.play.Reads as play
 
 -- The answer of a run is its number and its state.
@@ -18,8 +18,8 @@ ran-alike t u p q = ap {B = Ran} (λ (n : ℕ). record { answer = n; state = t .
 pub event-in-determined : (κs : Lfts 1) (a : _) (t u : Event) (x y : _) → event-in.Post κs a t x → event-in.Post κs a u y → t ≡ u
 event-in-determined κs a t u x y e f = alike e f
 
-pub write-determined : (κs : Lfts 1) (a : _) (t u : _) (x y : _) → write.Post κs a t x → write.Post κs a u y → (t ≡ u) × (x .0 .now ≡ y .0 .now)
-write-determined κs a t u x y e f = (refl, alike e f)
+pub put-three-determined : (κs : Lfts 1) (a : _) (t u : _) (x y : _) → put-three.Post κs a t x → put-three.Post κs a u y → (t ≡ u) × (x .0 .now ≡ y .0 .now)
+put-three-determined κs a t u x y e f = (refl, alike e f)
 
 -- The final state, and the slice.
 pub play-determined : (κs : Lfts 1) (a : _) (t u : State) (x y : _) → play.Post κs a t x → play.Post κs a u y → (t ≡ u) × (x .1 .0 .now ≡ y .1 .0 .now)

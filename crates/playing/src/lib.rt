@@ -33,8 +33,8 @@ pub fn event_in(numbers: &[u32], k: usize) -> Event
     }
 }
 
-// Writes three numbers at a place.
-pub fn write(out: &mut [u32], k: usize, x: u32, y: u32, z: u32)
+// Puts three numbers at a place.
+pub fn put_three(out: &mut [u32], k: usize, x: u32, y: u32, z: u32)
     requires { ⌜ 3 * k + 3 ≤ length (now out) ⌝ }
     ensures { λ _. ⌜ now (out .exit) ≡ written (now (out .entry)) k x y z ⌝ }
 {
@@ -54,7 +54,7 @@ fn tell(out: &mut [u32], k: usize, p: Plan)
     let second = acted.second;
     let moved = acted.moved;
     let sent = sets::size(first.to) as u32 + sets::size(second.to) as u32;
-    write(out, k, p.answer, sent, moved.count);
+    put_three(out, k, p.answer, sent, moved.count);
 }
 
 // A state from its parts.

@@ -19,7 +19,7 @@ fn spell(file: &[u8], total: usize, out: &mut [u32])
     let mut k: usize = 0;
     while k < total {
         let ev = files::event_at(file, k);
-        playing::write(out, k, ev.kind, ev.a, ev.b);
+        playing::put_three(out, k, ev.kind, ev.a, ev.b);
         k += 1;
     }
 }

@@ -20,7 +20,7 @@ fn step_all(events: &[u32], total: usize, out: &mut [u32], mut s: State)
         let ev = playing::event_in(events, k);
         let r = group::event(s, ev);
         let moved = r.moved;
-        playing::write(out, k, r.answer, r.sent, moved.count);
+        playing::put_three(out, k, r.answer, r.sent, moved.count);
         s = r.state;
         k += 1;
     }

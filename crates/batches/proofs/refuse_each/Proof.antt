@@ -1,21 +1,23 @@
 -- `refuse_each` meets its contract: the first k events are answered. Assumes nothing.
 use borrow.Author.Needs.{needs}
 use Prim.Native.Nat.{_-_}
-use Rattle.batches.proofs.Laws.Handling.{Refusing, refusing-start, refusing-room, refusing-on, refusing-end}
+use mathlib.Core.Path.{refl}
+use Rattle.events.specs.Events.{eventOf}
+use Rattle.playing.proofs.Laws.Spelling.{Spelling, spelling-start, spelling-room, spelling-on, spelling-end}
 use Rattle.batches.proofs.refuse_each.Statement.{statement}
 use Rattle.batches.proofs.refuse_each.Tie as tie
 
 abbrev Inv-loop : tie.InvT-loop
-Inv-loop number total out₀ k₀ out k = Refusing number total out₀ out k
+Inv-loop number total out₀ k₀ out k = Spelling (λ i. eventOf number 0 0) total out₀ out k
 
 abbrev μ-loop : tie.MeasureT-loop
 μ-loop number total out₀ k₀ out k = total - k
 
 loop-holds : tie.Need-loop-holds Inv-loop μ-loop
-loop-holds c = refusing-start _ _ _ (c .before .pre)
+loop-holds c = spelling-start _ _ _ (c .before .pre)
 
-write-requires : tie.Need-write-requires Inv-loop μ-loop
-write-requires c κs = refusing-room _ _ _ _ _ (c .before .before .loop .inv) (c .before .loop-test .taken)
+put-three-requires : tie.Need-put-three-requires Inv-loop μ-loop
+put-three-requires c κs = spelling-room _ _ _ _ _ (c .before .before .loop .inv) (c .before .loop-test .taken)
 
 add-k : tie.Need-add-k Inv-loop μ-loop
 add-k c = search needs
@@ -26,13 +28,13 @@ loop-less c = search needs
 loop-again : tie.Need-loop-again Inv-loop μ-loop
 loop-again c =
     let turn = c .before .before .before .before in
-    refusing-on _ _ _ _ _ _ (turn .before .loop .inv) (turn .loop-test .taken) (c .before .before .write .ensures)
+    spelling-on _ _ _ _ _ _ _ (turn .before .loop .inv) (turn .loop-test .taken) refl (c .before .before .put-three .ensures)
 
 same-length : tie.Need-same-length Inv-loop μ-loop
 same-length c = search needs
 
 returns : tie.Need-returns Inv-loop μ-loop
-returns c = refusing-end _ _ _ _ _ (c .before .loop .inv) (c .loop-test .left)
+returns c = spelling-end _ _ _ _ _ (c .before .loop .inv) (c .loop-test .left)
 
 pub refuse-each-spec : {M : Type 1} → statement M
 refuse-each-spec =
@@ -41,7 +43,7 @@ refuse-each-spec =
     Inv-loop
     μ-loop
     loop-holds
-    write-requires
+    put-three-requires
     add-k
     loop-less
     loop-again

@@ -3,15 +3,19 @@ use mathlib.Core.Path.{_≡_, refl, sym, ap, _∙_}
 use mathlib.Core.List.{List}
 use mathlib.Core.Logic.{_⊎_, inl, inr, ⊎-elim}
 use Prim.Native.Nat.{ℕ, zero, suc, _+_, _*_, _≤_, _<_}
+use native.Mathlib.Numerals.{add-one}
 use native.Mathlib.Omega.{arith}
 use lib.ListN.{length, getD}
 use lib.Seq.{ext-getD}
 use Rattle.sets.proofs.Laws.Bools.{lt-or-le}
+use Rattle.tree.specs.Tree.{nobody}
 use Rattle.events.specs.declared.Event.{Event}
+use Rattle.events.specs.Events.{eventOf}
 use Rattle.state.specs.declared.State.{State}
 use Rattle.order.specs.Between.{InOrder}
 use Rattle.group.specs.declared.Stepped.{Stepped}
-use Rattle.group.specs.Events.{event}
+use Rattle.group.specs.Events.{refused, event}
+use Rattle.group.proofs.Laws.Events.{refused-says}
 use Rattle.group.proofs.Laws.Moving.{event-keeps-order}
 use Rattle.playing.specs.Playing.{Run, written, told, eventIn, played, spelt}
 use Rattle.playing.proofs.Laws.Slices.{written-long, written-keeps, agree-written, spelt-long, spelt-keeps, spelt-reads}
@@ -49,6 +53,24 @@ played-splits anc events (suc i) j k s out =
     let q : k + suc i ≡ k + 1 + i = omega arith in
     rw (p, q, played-next anc events (i + j) k s out u refl, played-next anc events i k s out u refl)
     (played-splits anc events i j (k + 1) (u .state) (written out k (u .answer) (u .sent) (u .moved .count)))
+
+-- Where every event is refused alike, the state stays and each is told so.
+module _ (anc : ℕ → ℕ) (events : ℕ → Event) (number : ℕ) (s : State) (alike : (ev : Event) → event anc s ev ≡ refused number s) where
+  abbrev each : ℕ → List ℕ → List ℕ
+  each k out = spelt (λ i. eventOf number 0 0) k out
+
+  refused-from : (left k : ℕ) (out : List ℕ) → played anc events left k s (each k out) ≡ record { answer = 0; state = s; answers = each (k + left) out }
+  unfolding spelt
+  refused-from zero k out = played-none anc events k s (each k out) ∙ ap {B = Run} (λ (i : ℕ). record { answer = 0; state = s; answers = each i out }) (let e : k ≡ k + 0 = omega arith in e)
+  refused-from (suc left) k out =
+      played-next anc events left k s (each k out) (record { answer = number; sent = 0; moved = nobody; state = s }) (alike (events k) ∙ refused-says number s)
+      ∙ ap (λ (i : ℕ). played anc events left i s (each (suc k) out)) (add-one k)
+      ∙ refused-from left (suc k) out
+      ∙ ap {B = Run} (λ (i : ℕ). record { answer = 0; state = s; answers = each i out }) (let e : suc k + left ≡ k + suc left = omega arith in e)
+
+  pub played-refused : (total : ℕ) (out : List ℕ) → played anc events total 0 s out ≡ record { answer = 0; state = s; answers = each total out }
+  unfolding spelt
+  played-refused total out = refused-from total 0 out ∙ ap {B = Run} (λ (i : ℕ). record { answer = 0; state = s; answers = each i out }) (let e : 0 + total ≡ total = omega arith in e)
 
 -- ---- what stays
 

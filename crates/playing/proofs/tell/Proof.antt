@@ -1,4 +1,4 @@
--- `tell` meets its contract: what `write` is given is the plan's. Assumes nothing.
+-- `tell` meets its contract: what `put_three` is given is the plan's. Assumes nothing.
 use borrow.Author.Needs.{needs}
 use mathlib.Core.Path.{_∙_}
 use Rattle.playing.proofs.tell.Statement.{statement}
@@ -19,14 +19,14 @@ cast-sent-2 c = search needs
 add-sent : tie.Need-add-sent
 add-sent c = search needs
 
-write-requires : tie.Need-write-requires
-write-requires c κs = search needs
+put-three-requires : tie.Need-put-three-requires
+put-three-requires c κs = search needs
 
 same-length : tie.Need-same-length
 same-length c = search needs
 
 returns : tie.Need-returns
-returns c = c .before .before .write .ensures ∙ rw (c .before .before .before .before .before .size .ensures, c .before .before .before .before .size2 .ensures)
+returns c = c .before .before .put-three .ensures ∙ rw (c .before .before .before .before .before .size .ensures, c .before .before .before .before .size2 .ensures)
 
 pub tell-spec : {M : Type 1} → statement M
 tell-spec =
@@ -37,6 +37,6 @@ tell-spec =
     size-requires-2
     cast-sent-2
     add-sent
-    write-requires
+    put-three-requires
     same-length
     returns)

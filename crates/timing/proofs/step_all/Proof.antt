@@ -21,8 +21,8 @@ event-in-requires c κs = omega (arith, c .loop-test .taken, c .before .before .
 event-requires : tie.Need-event-requires Inv-loop μ-loop
 event-requires c κs = search needs
 
-write-requires : tie.Need-write-requires Inv-loop μ-loop
-write-requires c κs = search stepping-room
+put-three-requires : tie.Need-put-three-requires Inv-loop μ-loop
+put-three-requires c κs = search stepping-room
 
 add-k : tie.Need-add-k Inv-loop μ-loop
 add-k c = search needs
@@ -36,7 +36,7 @@ loop-again c =
     let stepped = wrote .before .before .before in
     let read = stepped .before in
     let turn = read .before in
-    stepping-one _ _ _ _ _ _ _ _ _ _ (turn .before .loop .inv) (turn .loop-test .taken) (read .event-in .ensures) (stepped .event .ensures) (wrote .write .ensures)
+    stepping-one _ _ _ _ _ _ _ _ _ _ (turn .before .loop .inv) (turn .loop-test .taken) (read .event-in .ensures) (stepped .event .ensures) (wrote .put-three .ensures)
 
 same-length : tie.Need-same-length Inv-loop μ-loop
 same-length c = search needs
@@ -53,7 +53,7 @@ step-all-spec =
     loop-holds
     event-in-requires
     event-requires
-    write-requires
+    put-three-requires
     add-k
     loop-less
     loop-again

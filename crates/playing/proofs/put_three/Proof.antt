@@ -1,12 +1,12 @@
--- `write` meets its contract: three stores. Assumes nothing.
+-- `put_three` meets its contract: three stores. Assumes nothing.
 use borrow.Author.Needs.{needs}
 use Prim.Native.Nat.{_+_, _*_}
 use lib.ListN.{set, length-set}
 use native.Mathlib.Omega.{arith}
 use mathlib.Core.Path.{refl}
 use Rattle.playing.specs.Playing.{written}
-use Rattle.playing.proofs.write.Statement.{statement}
-use Rattle.playing.proofs.write.Tie as tie
+use Rattle.playing.proofs.put_three.Statement.{statement}
+use Rattle.playing.proofs.put_three.Tie as tie
 
 mul-place : tie.Need-mul-place
 mul-place c = search needs
@@ -44,8 +44,8 @@ returns : tie.Need-returns
 unfolding written
 returns c = refl
 
-pub write-spec : {M : Type 1} → statement M
-write-spec =
+pub put-three-spec : {M : Type 1} → statement M
+put-three-spec =
     tie.close
     (tie.spec
     mul-place
