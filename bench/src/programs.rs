@@ -1,5 +1,6 @@
 //! The programs that are timed and compared. Each starts a group, plays a workload's events and writes three numbers for each.
 
+use crate::clock::Call;
 use crate::linked;
 use crate::workloads::Workload;
 
@@ -8,6 +9,12 @@ pub struct Program {
     pub run: fn(&Workload, &mut [u32]) -> u32,
     /// How many times faster than the first program it is to be.
     pub goal: Option<f64>,
+}
+
+impl Program {
+    pub fn call<'a>(&'a self, workload: &'a Workload) -> Call<'a> {
+        Box::new(|out| _ = (self.run)(workload, out))
+    }
 }
 
 /// The proved code: `event` called one after the other first, by which the others are measured.

@@ -1,5 +1,6 @@
 //! What is timed: a group's size and its events, with the answers that the model has.
 
+use model::file::write;
 use model::group::{Event, Group};
 use model::random::Random;
 
@@ -8,14 +9,21 @@ pub struct Workload {
     pub n: u32,
     /// Three an event: kind, a, b.
     pub numbers: Vec<u32>,
+    /// The same as a schedule file; no bytes where no file can hold it.
+    pub file: Vec<u8>,
     /// Three an event: answer, sent, how many ranks moved.
     pub wanted: Vec<u32>,
+    /// How many times a rank has marked one.
+    pub known: usize,
 }
 
 impl Workload {
     pub fn new(name: &str, n: u32, events: &[Event]) -> Workload {
         let numbers = events.iter().flat_map(|e| [e.kind, e.a, e.b]).collect();
-        Workload { name: name.to_string(), n, numbers, wanted: wanted(n, events) }
+        let fits = (1..=64).contains(&n) && events.iter().all(|e| e.kind < 256);
+        let file = if fits { write(n as u8, events) } else { Vec::new() };
+        let (wanted, known) = wanted(n, events);
+        Workload { name: name.to_string(), n, numbers, file, wanted, known }
     }
 
     pub fn events(&self) -> usize {
@@ -27,14 +35,27 @@ impl Workload {
     }
 }
 
-/// What must be written of each event. A group of a wrong size refuses every event with 1.
-fn wanted(n: u32, events: &[Event]) -> Vec<u32> {
+/// What must be written of each event, and how many marks there are in the end. A group of a wrong size refuses every event with 1.
+fn wanted(n: u32, events: &[Event]) -> (Vec<u32>, usize) {
     if !(1..=64).contains(&n) {
-        return [1, 0, 0].repeat(events.len());
+        return ([1, 0, 0].repeat(events.len()), 0);
     }
     let mut group = Group::start(n);
     let answers = events.iter().map(|e| group.event(*e));
-    answers.flat_map(|a| [a.number, a.sent, a.moved.count]).collect()
+    let wanted = answers.flat_map(|a| [a.number, a.sent, a.moved.count]).collect();
+    (wanted, group.ranks.iter().map(|r| r.marks.len()).sum())
+}
+
+/// So many events for n ranks, each chosen where the group stands.
+pub fn played(name: &str, n: u32, events: usize, mut next: impl FnMut(&Group) -> Event) -> Workload {
+    let mut group = Group::start(n);
+    let mut played = Vec::new();
+    while played.len() < events {
+        let e = next(&group);
+        group.event(e);
+        played.push(e);
+    }
+    Workload::new(name, n, &played)
 }
 
 /// Mostly an event that may happen now, however late it is: known deaths are told again, and few ranks die.
@@ -53,12 +74,5 @@ fn any(random: &mut Random, g: &Group) -> Event {
 /// Random events for n ranks.
 pub fn mixed(seed: u64, n: u32, events: usize) -> Workload {
     let random = &mut Random::new(seed);
-    let mut group = Group::start(n);
-    let mut played = Vec::new();
-    while played.len() < events {
-        let e = any(random, &group);
-        group.event(e);
-        played.push(e);
-    }
-    Workload::new("mixed", n, &played)
+    played("mixed", n, events, |g| any(random, g))
 }

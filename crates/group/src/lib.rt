@@ -1,8 +1,7 @@
 // The group: one event on a state handed in. The entry point for callers is event; it refuses bad input and requires nothing.
 use events::Event;
-use net::Joined;
+use net::Forwarded;
 use plans::Plan;
-use rank::Message;
 use state::Group;
 use state::State;
 use tree::Moved;
@@ -13,7 +12,7 @@ ghost use lib.ListN.{take};
 ghost use Rattle.sets.specs.Sets.{add};
 ghost use Rattle.tree.specs.Tree.{flat};
 ghost use Rattle.rank.specs.Sends.{size};
-ghost use Rattle.net.specs.Net.{padded, placed};
+ghost use Rattle.net.specs.Net.{messagesOf, padded, placed, Small};
 ghost use Rattle.order.specs.Between.{InOrder};
 ghost use Rattle.group.specs.Events.{applied, event, planOf, posted, refused, stepped, subjectOf};
 ghost use Rattle.group.specs.Between.{Carriable};
@@ -70,12 +69,16 @@ fn plan_of(s: State, ev: Event) -> Plan
 }
 
 // The list after a plan: a message has left, if one leaves, and two sends have joined.
-pub fn post(net: [Message; 128], count: u8, place: u32, me: u8, p: Plan) -> Joined
-    requires { ⌜ net ≡ padded (take count net) ⌝ }
+pub fn post(net: &mut [u64; 128], count: u8, place: u32, me: u8, p: Plan) -> Forwarded
+    requires { ⌜ messagesOf (now net) ≡ padded (take count (messagesOf (now net))) ⌝ }
     requires { ⌜ count ≤ 128 ⌝ }
     requires { ⌜ (p .leaves ≡ true → place < count) ⌝ }
     requires { ⌜ count + size (p .acted .first) + size (p .acted .second) - cond (p .leaves) 1 0 ≤ 128 ⌝ }
-    ensures { λ r. ⌜ r ≡ placed (posted (take count net) place me p) ⌝ }
+    requires { ⌜ Small (now net) ⌝ }
+    ensures { λ _. ⌜ Small (now (net .exit)) ⌝ }
+    ensures { λ r. ⌜ r .sent ≡ size (p .acted .first) + size (p .acted .second) ⌝ }
+    ensures { λ r. ⌜ r .count ≡ placed (posted (take count (messagesOf (now (net .entry)))) place me p) .count ⌝ }
+    ensures { λ r. ⌜ messagesOf (now (net .exit)) ≡ placed (posted (take count (messagesOf (now (net .entry)))) place me p) .net ⌝ }
 {
     let acted = p.acted;
     let first = acted.first;
@@ -90,9 +93,9 @@ fn carry(s: State, place: u32, me: u8, p: Plan) -> State
 {
     let g = s.group;
     let acted = p.acted;
-    let net = g.net;
-    let after = post(net, g.count, place, me, p);
-    let messages = after.net;
+    let given = g.net;
+    let mut net = net::numbers(given, g.count);
+    let after = post(&mut net, g.count, place, me, p);
     let mut ranks = g.ranks;
     let mut tables = state::tables_of(s);
     let rank = acted.rank;
@@ -104,7 +107,7 @@ fn carry(s: State, place: u32, me: u8, p: Plan) -> State
         dead: buried(g.dead, me, p.dies),
         count: after.count,
         ranks,
-        net: messages,
+        net: net::messages(net, after.count),
     };
     state::join(group, tables)
 }

@@ -3,3 +3,4 @@ pub mod Net
 pub mod Forwarding
 pub mod Lists
 pub mod Among
+pub mod Numbers

@@ -1,11 +1,10 @@
 -- The list of messages in flight. A record keeps it in 128 places: the messages in order, then zeros.
-use Prim.Native.Nat.{ℕ, suc, _-_}
-use mathlib.Core.List.{List, _++_}
-use lib.ListN.{length, take, drop, replicate}
+use Prim.Native.Nat.{ℕ, suc, _-_, _/_, _%_, _<_}
+use mathlib.Core.List.{List, _++_, map}
+use lib.ListN.{length, getD, take, drop, replicate}
 use Rattle.rank.specs.declared.Message.{Message}
 use Rattle.rank.specs.declared.Send.{Send}
 use Rattle.rank.specs.Sends.{letters}
-use Rattle.net.specs.declared.Joined.{Joined}
 
 -- At most 128 messages are in flight.
 abbrev pub inFlight : ℕ
@@ -22,9 +21,26 @@ padded l = l ++ replicate (inFlight - length l) zeroMessage
 unfoldable pub without : ℕ → List Message → List Message
 without place l = take place l ++ drop (suc place) l
 
+-- The 128 places, and how many of them hold messages.
+pub record Joined : Type 0 where
+  pub net : List Message
+  pub count : ℕ
+
 -- A list in its 128 places, with its length; and with the messages of a send at its end.
 abbrev pub placed : List Message → Joined
 placed l = record { net = padded l; count = length l }
 
 unfoldable pub joining : List Message → ℕ → Send → Joined
 joining l me s = placed (l ++ letters me s)
+
+-- A message as one number has its kind, sender and receiver in the lowest three bytes, and its word above them. What an array of such numbers
+-- holds is the list of their messages.
+unfoldable pub messageOf : ℕ → Message
+messageOf x = record { kind = x % 256; from = x / 256 % 256; to = x / 65536 % 256; word = x / 16777216 % 4294967296 }
+
+unfoldable pub messagesOf : List ℕ → List Message
+messagesOf = map messageOf
+
+-- Such a number has seven bytes.
+pub record Small (numbers : List ℕ) : Type 0 where
+  pub bound : (i : ℕ) → getD numbers i 0 < 72057594037927936

@@ -1,6 +1,5 @@
 // Events one after the other: the loop that the run of a file and a call on a lent run of events share.
 use events::Event;
-use plans::Plan;
 use rank::Message;
 use rank::Rank;
 use state::Group;
@@ -9,7 +8,6 @@ ghost use mathlib.Core.Path.{_≡_};
 ghost use Prim.Native.Nat.{_+_, _*_, _≤_};
 ghost use lib.ListN.{length};
 ghost use Rattle.tree.specs.Tree.{flat};
-ghost use Rattle.rank.specs.Sends.{size};
 ghost use Rattle.state.specs.States.{joined};
 ghost use Rattle.order.specs.Between.{InOrder};
 ghost use Rattle.playing.specs.Playing.{eventIn, played, written};
@@ -42,19 +40,6 @@ pub fn put_three(out: &mut [u32], k: usize, x: u32, y: u32, z: u32)
     out[place] = x;
     out[place + 1] = y;
     out[place + 2] = z;
-}
-
-// Writes an event's answer, how many messages it sent and how many ranks moved.
-fn tell(out: &mut [u32], k: usize, p: Plan)
-    requires { ⌜ 3 * k + 3 ≤ length (now out) ⌝ }
-    ensures { λ _. ⌜ now (out .exit) ≡ written (now (out .entry)) k (p .answer) (size (p .acted .first) + size (p .acted .second)) (p .acted .moved .count) ⌝ }
-{
-    let acted = p.acted;
-    let first = acted.first;
-    let second = acted.second;
-    let moved = acted.moved;
-    let sent = sets::size(first.to) as u32 + sets::size(second.to) as u32;
-    put_three(out, k, p.answer, sent, moved.count);
 }
 
 // A state from its parts.
@@ -91,30 +76,34 @@ pub fn play(total: usize, out: &mut [u32], s: State) -> State
     let mut dead = g.dead;
     let mut count = g.count;
     let mut ranks = g.ranks;
-    let mut net = g.net;
+    let given = g.net;
+    let mut net = net::numbers(given, count);
     let mut tables = state::tables_of(s);
     let mut k: usize = 0;
     while k < total {
         let ev = event_in(out, k);
-        let m = net::at(net, ev.a);
+        let m = net::message_at(&net, ev.a);
         let me = plans::subject(n, ev, m);
         let r = ranks[me as usize];
         let row = tables[me as usize];
         let p = plans::plan_event(n, dead, count, ev, m, me, r, row);
-        tell(out, k, p);
-        k += 1;
         if p.answer != 0 {
+            put_three(out, k, p.answer, 0, 0);
+            k += 1;
             continue;
         }
-        let after = group::post(net, count, ev.a, me, p);
-        net = after.net;
+        let after = group::post(&mut net, count, ev.a, me, p);
+        let acted = p.acted;
+        let moved = acted.moved;
+        put_three(out, k, 0, after.sent, moved.count);
+        k += 1;
         count = after.count;
         dead = group::buried(dead, me, p.dies);
-        let acted = p.acted;
         let rank = acted.rank;
         let table = acted.row;
         ranks[me as usize] = rank;
         tables[me as usize] = table;
     }
-    assemble(n, dead, count, ranks, net, tables)
+    let messages = net::messages(net, count);
+    assemble(n, dead, count, ranks, messages, tables)
 }

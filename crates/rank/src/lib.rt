@@ -390,6 +390,7 @@ impl Rank {
     fn inherit(self, n: u8, me: u8, row: [u8; 64], q: u8, seen: Rank, table: [u8; 64]) -> Said
         requires { ⌜ FreshRow flat n me self row ⌝ }
         requires { ⌜ FreshRow flat n me seen table ⌝ }
+        requires { ⌜ q < n ⌝ }
         ensures { λ r. ⌜ r ≡ inheriting flat n me q self seen ⌝ }
     {
         let children = tree::children_of(n, seen.marks, table, me);

@@ -82,9 +82,12 @@ pub fn largest(w: u64) -> u8
     (63 - u64::leading_zeros(w)) as u8
 }
 
-// How many members the set has.
+// How many members the set has; most sets are empty, and a count of ones takes long.
 pub fn size(w: u64) -> u8
     ensures { λ r. ⌜ r ≡ count (has w) 64 ⌝ }
 {
+    if w == 0 {
+        return 0;
+    }
     u64::count_ones(w) as u8
 }

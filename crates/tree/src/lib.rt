@@ -1,7 +1,10 @@
 // Views of the tree: who is whose parent once some ranks are marked dead, and the table of parents, mended at each mark.
 // Entry points for callers are mark and climb; they refuse bad input and require nothing.
 ghost use mathlib.Core.Path.{_≡_};
-ghost use Prim.Native.Nat.{_+_, _<_, _≤_};
+ghost use mathlib.Core.Bool.{cond};
+ghost use Prim.Native.Nat.{_+_, _*_, _<_, _≤_};
+ghost use lib.Dec.{eqb};
+ghost use Rattle.sets.specs.Sets.{below, minus};
 ghost use Rattle.tree.specs.Tree.{children, flat, fresh, half, parent, sized, nobody};
 ghost use Rattle.tree.specs.Calls.{andThen, climbed, marked, mended, mendedBelow, markRefused, climbing, same, told, wrongSize};
 
@@ -112,14 +115,26 @@ pub fn fresh(n: u8, marks: u64) -> [u8; 64]
     table
 }
 
+// The first rank whose parent may be q. An ancestor is at most half of a rank; only the lowest unmarked rank is the parent of others.
+fn first_below(marks: u64, q: u8) -> u8
+    requires { ⌜ q < 64 ⌝ }
+    ensures { λ r. ⌜ r ≡ cond (eqb (minus (below q) marks) 0) (q + 1) (2 * q) ⌝ }
+{
+    if sets::minus(sets::below(q), marks) == 0 {
+        return q + 1;
+    }
+    2 * q
+}
+
 // The children of p, read off the table.
 pub fn children_of(n: u8, marks: u64, table: [u8; 64], p: u8) -> u64
     requires { ⌜ n ≤ 64 ⌝ }
+    requires { ⌜ p < 64 ⌝ }
     requires { ⌜ table ≡ fresh flat n marks ⌝ }
     ensures { λ r. ⌜ r ≡ children flat n marks p ⌝ }
 {
     let mut pointing: u64 = 0;
-    let mut c: u8 = 0;
+    let mut c: u8 = first_below(marks, p);
     while c < n {
         if table[c as usize] == p {
             pointing = sets::with(pointing, c);
@@ -145,7 +160,7 @@ pub fn mend(n: u8, marks: u64, mut table: [u8; 64], q: u8) -> Mended
     }
     let after = sets::with(marks, q);
     let mut changed: u64 = 0;
-    let mut p: u8 = 0;
+    let mut p: u8 = first_below(marks, q);
     while p < n {
         if table[p as usize] == q {
             table[p as usize] = parent_of(after, p);

@@ -1,6 +1,6 @@
 -- What a kind names. Assumes nothing.
 use mathlib.Core.Path.{_≡_}
-use mathlib.Core.Bool.{true, false}
+use mathlib.Core.Bool.{true, false, _||_}
 use mathlib.Core.Logic.{_⊎_, inl, inr, ⊎-elim}
 use Prim.Native.Nat.{ℕ}
 use lib.Dec.{eqb}
@@ -21,3 +21,9 @@ names-a-place kind k = rw k
 pub place-kinds : (kind : ℕ) → namesPlace kind ≡ true → (kind ≡ 2) ⊎ (kind ≡ 5)
 unfolding namesPlace
 place-kinds kind t = ⊎-elim (λ (x : eqb kind 2 ≡ true). inl (eqb-true kind 2 x)) (λ (x : eqb kind 5 ≡ true). inr (eqb-true kind 5 x)) (or-cases (eqb kind 2) (eqb kind 5) t)
+
+pub rank-kinds : (kind : ℕ) → namesRank kind ≡ true → (kind ≡ 1) ⊎ ((kind ≡ 3) ⊎ (kind ≡ 4))
+unfolding namesRank
+rank-kinds kind t =
+    ⊎-elim (λ (x : eqb kind 1 || eqb kind 3 ≡ true). ⊎-elim (λ (y : eqb kind 1 ≡ true). inl (eqb-true kind 1 y)) (λ (y : eqb kind 3 ≡ true). inr (inl (eqb-true kind 3 y))) (or-cases (eqb kind 1) (eqb kind 3) x)) (λ (x : eqb kind 4 ≡ true). inr (inr (eqb-true kind 4 x)))
+    (or-cases (eqb kind 1 || eqb kind 3) (eqb kind 4) t)

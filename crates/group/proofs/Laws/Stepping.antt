@@ -2,7 +2,7 @@
 -- Assumes nothing.
 use mathlib.Core.Path.{_≡_, refl, sym, ap, subst, _∙_}
 use mathlib.Core.Bool.{true, false, cond}
-use mathlib.Core.List.{List, [], _++_}
+use mathlib.Core.List.{List, []}
 use mathlib.Core.Logic.{_⊎_, inl, inr, ⊎-elim}
 use Prim.Native.Nat.{ℕ, _+_, _≤_, _<_}
 use native.Mathlib.Omega.{arith}
@@ -13,9 +13,8 @@ use Rattle.sets.specs.Sets.{has, add, count}
 use Rattle.sets.proofs.Laws.Bools.{passes-or-fails, lt-or-le}
 use Rattle.tree.specs.Tree.{flat, nobody}
 use Rattle.rank.specs.declared.Message.{Message}
-use Rattle.rank.specs.Sends.{letters}
-use Rattle.net.specs.declared.Joined.{Joined}
-use Rattle.net.specs.Net.{inFlight, zeroMessage, padded, without, placed}
+use Rattle.net.specs.Net.{inFlight, zeroMessage, padded, placed}
+use Rattle.net.proofs.Laws.Forwarding.{holding-again, forward-fits}
 use Rattle.events.specs.declared.Event.{Event}
 use Rattle.events.specs.Events.{namesPlace}
 use Rattle.state.specs.declared.State.{State}
@@ -144,17 +143,24 @@ step-carriable s ev p me o e z g =
       own = omega (arith, subject-in flat s f ev, f .size-high);
     }
 
--- the list after a plan
-pub posted-list : (l : List Message) (place me : ℕ) (p : Plan) (j : Joined) → j ≡ placed ((cond (p .leaves) (without place l) l ++ letters me (p .acted .first)) ++ letters me (p .acted .second)) → j ≡ placed (posted l place me p)
-unfolding posted
-posted-list l place me p j e = e
+-- a plan that can be carried out has its messages in place, before and after
+pub carry-posts : (s : State) (place me : ℕ) (p : Plan) (m : List Message) → Carriable s place me p → m ≡ s .group .net → m ≡ padded (take (s .group .count) m)
+carry-posts s place me p m h e = subst (λ (x : List Message). x ≡ padded (take (s .group .count) x)) (sym e) (h .held)
 
-pub carry-applied : (s : State) (place me : ℕ) (p : Plan) (j : Joined) (d : ℕ) (t : List (List ℕ)) (u : State) → t ≡ s .tables
-    → j ≡ placed (posted (flying s) place me p) → d ≡ cond (p .dies) (add (s .group .dead) me) (s .group .dead)
-    → u ≡ joined (record { n = s .group .n; dead = d; count = j .count; ranks = set (s .group .ranks) me (p .acted .rank); net = j .net }) (set t me (p .acted .row))
+pub carry-posted : (s : State) (place me : ℕ) (p : Plan) (m next : List Message) (c : ℕ) → Carriable s place me p → m ≡ s .group .net
+    → c ≡ placed (posted (take (s .group .count) m) place me p) .count → next ≡ placed (posted (take (s .group .count) m) place me p) .net → (next ≡ padded (take c next)) × (c ≤ 128)
+unfolding posted
+carry-posted s place me p m next c h e f g = (
+  holding-again next c (posted (take (s .group .count) m) place me p) (record { places = g; number = f }),
+  (let l = forward-fits m (s .group .count) place me (p .leaves) (p .acted .first) (p .acted .second) (carry-posts s place me p m h e) (h .count-le) (h .there) (h .room) in omega arith),
+)
+
+pub carry-applied : (s : State) (place me : ℕ) (p : Plan) (m : List Message) (c : ℕ) (next : List Message) (d : ℕ) (t : List (List ℕ)) (u : State) → t ≡ s .tables → m ≡ s .group .net
+    → c ≡ placed (posted (take (s .group .count) m) place me p) .count → next ≡ placed (posted (take (s .group .count) m) place me p) .net → d ≡ cond (p .dies) (add (s .group .dead) me) (s .group .dead)
+    → u ≡ joined (record { n = s .group .n; dead = d; count = c; ranks = set (s .group .ranks) me (p .acted .rank); net = next }) (set t me (p .acted .row))
     → u ≡ applied s place me p
 unfolding applied
-carry-applied s place me p j d t u et ej ed eu = eu ∙ rw (ej, ed, et)
+carry-applied s place me p m c next d t u et em ec en ed eu = eu ∙ rw (ec, en, em, ed, et)
 
 pub step-refuses : (s : State) (ev : Event) (p : Plan) (r : Stepped) → p ≡ planOf flat s ev → (p .answer ≡ 0 → ⊥) → r ≡ refused (p .answer) s → r ≡ stepped flat s ev
 unfolding stepped carried
@@ -174,10 +180,10 @@ pub step-refused : (s : State) (ev : Event) (m : Message) (me : ℕ) (t : List (
 unfolding refused
 step-refused s ev m me t p e g h q z = step-refuses s ev p (refused (p .answer) s) (plan-is s ev m me t p e g h q) z refl
 
-pub step-accepted : (s : State) (ev : Event) (m : Message) (me : ℕ) (t : List (List ℕ)) (p : Plan) (j : Joined) (d x y : ℕ) (u : State) → m ≡ getD (s .group .net) (ev .a) zeroMessage → me ≡ subject (s .group .n) ev m → t ≡ s .tables
+pub step-accepted : (s : State) (ev : Event) (m : Message) (me : ℕ) (t : List (List ℕ)) (p : Plan) (c : ℕ) (next : List Message) (d x y : ℕ) (u : State) → m ≡ getD (s .group .net) (ev .a) zeroMessage → me ≡ subject (s .group .n) ev m → t ≡ s .tables
     → p ≡ planned flat (s .group .n) (s .group .dead) (s .group .count) ev m me (getD (s .group .ranks) me zeroRank) (getD t me []) → p .answer ≡ 0
-    → j ≡ placed (posted (flying s) (ev .a) me p) → d ≡ cond (p .dies) (add (s .group .dead) me) (s .group .dead) → x ≡ count (has (p .acted .first .to)) 64 → y ≡ count (has (p .acted .second .to)) 64
-    → u ≡ joined (record { n = s .group .n; dead = d; count = j .count; ranks = set (s .group .ranks) me (p .acted .rank); net = j .net }) (set t me (p .acted .row))
+    → c ≡ placed (posted (flying s) (ev .a) me p) .count → next ≡ placed (posted (flying s) (ev .a) me p) .net → d ≡ cond (p .dies) (add (s .group .dead) me) (s .group .dead) → x ≡ count (has (p .acted .first .to)) 64 → y ≡ count (has (p .acted .second .to)) 64
+    → u ≡ joined (record { n = s .group .n; dead = d; count = c; ranks = set (s .group .ranks) me (p .acted .rank); net = next }) (set t me (p .acted .row))
     → _≡_ {A = Stepped} (record { answer = 0; sent = x + y; moved = p .acted .moved; state = u }) (stepped flat s ev)
-step-accepted s ev m me t p j d x y u em eg et ep z ej ed ex ey eu =
-    step-carries s ev p me x y u (plan-is s ev m me t p em eg et ep) z (me-is s ev m me em eg) ex ey (carry-applied s (ev .a) me p j d t u et ej ed eu)
+step-accepted s ev m me t p c next d x y u em eg et ep z ec en ed ex ey eu =
+    step-carries s ev p me x y u (plan-is s ev m me t p em eg et ep) z (me-is s ev m me em eg) ex ey (carry-applied s (ev .a) me p (s .group .net) c next d t u et refl ec en ed eu)

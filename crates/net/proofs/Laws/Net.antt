@@ -21,8 +21,7 @@ use Rattle.rank.specs.declared.Send.{Send}
 use Rattle.rank.specs.declared.Message.{Message}
 use Rattle.rank.specs.Sends.{letter, letters, size}
 use Rattle.rank.proofs.Laws.Letters.{letter-is, letters-first, letters-none}
-use Rattle.net.specs.declared.Joined.{Joined}
-use Rattle.net.specs.Net.{zeroMessage, padded, without, joining}
+use Rattle.net.specs.Net.{Joined, zeroMessage, padded, without, joining}
 
 -- past the places there is no message
 pub at-past : (l : List Message) (m place : ℕ) (r : Message) → length l ≡ m → m ≤ place → r ≡ zeroMessage → r ≡ getD l place zeroMessage

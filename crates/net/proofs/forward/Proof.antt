@@ -1,50 +1,51 @@
 -- `forward` meets its contract: the message leaves if one does, then the two sends join. Assumes nothing.
 use borrow.Author.Needs.{needs}
 use native.Mathlib.Omega.{arith}
-use Rattle.net.proofs.Laws.Forwarding.{place-fits, left-held, one-held, room-left, room-kept, room-after-left, room-after-kept, forward-left, forward-kept}
+use Rattle.net.proofs.Laws.Forwarding.{holding-again, holding-spared, holding-joined, more, room-first, room-second, two-sends}
 use Rattle.net.proofs.forward.Statement.{statement}
 use Rattle.net.proofs.forward.Tie as tie
 
-cast-take-out : tie.Need-cast-take-out
-cast-take-out c = search place-fits
-
-take-out-requires : tie.Need-take-out-requires
-take-out-requires c κs = (search needs, (c .before .pre .1 .1 .0 (c .if1 .taken), search needs))
-
-sub-post : tie.Need-sub-post
-sub-post c = omega (arith, c .before .before .pre .1 .1 .0 (c .before .if1 .taken))
+let-go-requires : tie.Need-let-go-requires
+let-go-requires c κs = search needs
 
 post-requires : tie.Need-post-requires
 post-requires c κs =
-    let pre = c .before .before .pre in
-    let here = pre .1 .1 .0 (c .before .if1 .taken) in
-    (left-held _ _ _ _ (search needs) (pre .1 .0) here (c .take-out .ensures), room-left _ _ _ _ _ (pre .1 .1 .0) (c .before .if1 .taken) (pre .1 .1 .1))
+    let gone = c .before in
+    let pre = gone .before .before .pre in
+    let left = holding-spared _ _ _ _ _ _ (pre .0) (pre .1 .0) (pre .1 .1 .0) (gone .let-go .ensures .1 .0) (gone .let-go .ensures .1 .1) in
+    (holding-again _ _ _ left, (room-first _ _ _ _ _ _ (pre .1 .1 .0) (pre .1 .1 .1 .0) (gone .let-go .ensures .1 .0), gone .let-go .ensures .0))
 
 post-requires-2 : tie.Need-post-requires-2
-post-requires-2 c κs = (search one-held, search (room-after-left, needs))
+post-requires-2 c κs =
+    let once = c .before in
+    let gone = once .before .before in
+    let pre = gone .before .before .pre in
+    let left = holding-spared _ _ _ _ _ _ (pre .0) (pre .1 .0) (pre .1 .1 .0) (gone .let-go .ensures .1 .0) (gone .let-go .ensures .1 .1) in
+    let one = holding-joined _ _ _ _ _ _ _ left (once .post .ensures .1 .0) (once .post .ensures .1 .1) in
+    (holding-again _ _ _ one, (room-second _ _ _ _ _ _ _ (pre .1 .1 .0) (pre .1 .1 .1 .0) (gone .let-go .ensures .1 .0) (more _ _ _ _ _ _ _ left one), once .post .ensures .0))
+
+sub-t14 : tie.Need-sub-t14
+sub-t14 c =
+    let once = c .before .before in
+    let gone = once .before .before in
+    let pre = gone .before .before .pre in
+    let left = holding-spared _ _ _ _ _ _ (pre .0) (pre .1 .0) (pre .1 .1 .0) (gone .let-go .ensures .1 .0) (gone .let-go .ensures .1 .1) in
+    let one = holding-joined _ _ _ _ _ _ _ left (once .post .ensures .1 .0) (once .post .ensures .1 .1) in
+    let two = holding-joined _ _ _ _ _ _ _ one (c .post2 .ensures .1 .0) (c .post2 .ensures .1 .1) in
+    omega (arith, more _ _ _ _ _ _ _ left one, more _ _ _ _ _ _ _ one two)
+
+cast-t15 : tie.Need-cast-t15
+cast-t15 c = search needs
 
 returns : tie.Need-returns
-returns c = search (forward-left, needs)
-
-post-requires-3 : tie.Need-post-requires-3
-post-requires-3 c κs = (search needs, search room-kept)
-
-post-requires-4 : tie.Need-post-requires-4
-post-requires-4 c κs = (search one-held, search (room-after-kept, needs))
-
-returns-2 : tie.Need-returns-2
-returns-2 c = search forward-kept
+returns c =
+    let once = c .before .before in
+    let gone = once .before .before in
+    let pre = gone .before .before .pre in
+    let left = holding-spared _ _ _ _ _ _ (pre .0) (pre .1 .0) (pre .1 .1 .0) (gone .let-go .ensures .1 .0) (gone .let-go .ensures .1 .1) in
+    let one = holding-joined _ _ _ _ _ _ _ left (once .post .ensures .1 .0) (once .post .ensures .1 .1) in
+    let two = holding-joined _ _ _ _ _ _ _ one (c .post2 .ensures .1 .0) (c .post2 .ensures .1 .1) in
+    (c .post2 .ensures .0, (two-sends _ _ _ _ _ (more _ _ _ _ _ _ _ left one) (more _ _ _ _ _ _ _ one two), (two .number, two .places)))
 
 pub forward-spec : {M : Type 1} → statement M
-forward-spec =
-    tie.close
-    (tie.spec
-    cast-take-out
-    take-out-requires
-    sub-post
-    post-requires
-    post-requires-2
-    returns
-    post-requires-3
-    post-requires-4
-    returns-2)
+forward-spec = tie.close (tie.spec let-go-requires post-requires post-requires-2 sub-t14 cast-t15 returns)

@@ -12,8 +12,8 @@ use Rattle.tree.specs.Tree.{flat, nobody}
 use Rattle.rank.specs.declared.Rank.{Rank}
 use Rattle.rank.specs.declared.Message.{Message}
 use Rattle.rank.specs.Sends.{size}
-use Rattle.net.specs.declared.Joined.{Joined}
-use Rattle.net.specs.Net.{zeroMessage, padded, placed}
+use Rattle.net.specs.Net.{zeroMessage, padded, placed, messagesOf}
+use Rattle.net.proofs.Laws.Numbers.{messages-short, held-long}
 use Rattle.events.specs.declared.Event.{Event}
 use Rattle.state.specs.declared.State.{State}
 use Rattle.state.specs.States.{zeroRank, joined}
@@ -21,7 +21,6 @@ use Rattle.order.specs.Between.{InOrder}
 use Rattle.plans.specs.declared.Plan.{Plan}
 use Rattle.plans.specs.Plans.{subject, planned}
 use Rattle.plans.specs.Between.{FreshSubject}
-use Rattle.plans.proofs.Laws.Accepting.{refused-quiet}
 use Rattle.group.specs.declared.Stepped.{Stepped}
 use Rattle.group.specs.Events.{posted, event}
 use Rattle.group.proofs.Laws.Stepping.{subject-below, step-ready, step-held, step-count, step-refused, step-accepted}
@@ -33,6 +32,13 @@ use Rattle.playing.proofs.Laws.Slices.{written-long, written-keeps, rea
 -- A state from its parts.
 abbrev pub held : ℕ → ℕ → ℕ → List Rank → List Message → List (List ℕ) → State
 held n dead c ranks net tables = joined (record { n = n; dead = dead; count = c; ranks = ranks; net = net }) tables
+
+-- A state with its list and its tables taken out and put back.
+abbrev pub parts : State → List Message → List (List ℕ) → State
+parts s m t = held (s .group .n) (s .group .dead) (s .group .count) (s .group .ranks) m t
+
+parts-are : (s : State) (m : List Message) (t : List (List ℕ)) → m ≡ s .group .net → t ≡ s .tables → parts s m t ≡ s
+parts-are s m t e f = rw (e, f)
 
 -- Before the event at place k: the slice out₀ held the events.
 pub record Going (total : ℕ) (s₀ : State) (out₀ : List ℕ) (s : State) (out : List ℕ) (k : ℕ) : Type 0 where
@@ -47,9 +53,9 @@ going-start : (total : ℕ) (s : State) (out : List ℕ) → 3 * total ≤ lengt
 going-start total s out r o = record { room = r; within = omega arith; kept = refl; in-order = o; ahead = λ i l. refl; same-end = ap (λ (t : ℕ). played flat (eventIn out) t 0 s out) (let z : total - 0 ≡ total = omega arith in z) }
 
 -- The code starts from the parts of s and ends with them put together.
-pub going-begin : (total : ℕ) (s : State) (t : List (List ℕ)) (out : List ℕ) → t ≡ s .tables → 3 * total ≤ length out → InOrder flat s
-    → Going total (joined (s .group) t) out (joined (s .group) t) out 0
-going-begin total s t out e r o = subst (λ (x : List (List ℕ)). Going total (joined (s .group) x) out (joined (s .group) x) out 0) (sym e) (going-start total s out r o)
+pub going-begin : (total : ℕ) (s : State) (m : List Message) (t : List (List ℕ)) (out : List ℕ) → m ≡ s .group .net → t ≡ s .tables → 3 * total ≤ length out → InOrder flat s
+    → Going total (parts s m t) out (parts s m t) out 0
+going-begin total s m t out e f r o = subst (λ (x : State). Going total x out x out 0) (sym (parts-are s m t e f)) (going-start total s out r o)
 
 -- The event that is read is the one that stood there at first.
 going-reads : (total : ℕ) (s₀ : State) (out₀ : List ℕ) (s : State) (out : List ℕ) (k : ℕ) → Going total s₀ out₀ s out k → eventIn out k ≡ eventIn out₀ k
@@ -98,39 +104,47 @@ pub going-count : (total : ℕ) (s₀ : State) (out₀ : List ℕ) (n dead c : �
     → Going total s₀ out₀ (held n dead c ranks net tables) out k → c ≤ 128
 going-count total s₀ out₀ n dead c ranks net tables out k g = step-count (held n dead c ranks net tables) (g .in-order)
 
+pub going-long : (total : ℕ) (s₀ : State) (out₀ : List ℕ) (n dead c : ℕ) (ranks : List Rank) (net : List ℕ) (tables : List (List ℕ)) (out : List ℕ) (k : ℕ)
+    → Going total s₀ out₀ (held n dead c ranks (messagesOf net) tables) out k → length net ≡ 128
+going-long total s₀ out₀ n dead c ranks net tables out k g =
+    messages-short net 128 (held-long (messagesOf net) c (going-count total s₀ out₀ n dead c ranks (messagesOf net) tables out k g) (going-held total s₀ out₀ n dead c ranks (messagesOf net) tables out k g))
+
 -- ---- the next turn
 
 pub going-refused : (total : ℕ) (s₀ : State) (out₀ : List ℕ) (n dead c : ℕ) (ranks : List Rank) (net : List Message) (tables : List (List ℕ)) (out : List ℕ) (k : ℕ) (ev : Event) (m : Message) (me : ℕ) (p : Plan) (v : List ℕ)
     → Going total s₀ out₀ (held n dead c ranks net tables) out k → k < total → ev ≡ eventIn out k → m ≡ getD net (ev .a) zeroMessage → me ≡ subject n ev m
-    → p ≡ planned flat n dead c ev m me (getD ranks me zeroRank) (getD tables me []) → v ≡ written out k (p .answer) (size (p .acted .first) + size (p .acted .second)) (p .acted .moved .count) → (p .answer ≡ 0 → ⊥)
+    → p ≡ planned flat n dead c ev m me (getD ranks me zeroRank) (getD tables me []) → v ≡ written out k (p .answer) 0 0 → (p .answer ≡ 0 → ⊥)
     → Going total s₀ out₀ (held n dead c ranks net tables) v (k + 1)
 going-refused total s₀ out₀ n dead c ranks net tables out k ev m me p v g l ee em eg ep w z =
-    let q = refused-quiet flat n dead c ev m me (getD ranks me zeroRank) (getD tables me []) p ep z in
     let s = held n dead c ranks net tables in
-    rw (w, q .0, q .1)
+    rw w
     (going-on total s₀ out₀ s out k (record { answer = p .answer; sent = 0; moved = nobody; state = s }) g l
     (step-refused s ev m me tables p em eg refl ep z ∙ sym (event-steps-on flat s ev (g .in-order)) ∙ ap (event flat s) ee))
 
-pub going-accepted : (total : ℕ) (s₀ : State) (out₀ : List ℕ) (n dead c : ℕ) (ranks : List Rank) (net : List Message) (tables : List (List ℕ)) (out : List ℕ) (k : ℕ) (ev : Event) (m : Message) (me : ℕ) (p : Plan) (v : List ℕ) (j : Joined) (d : ℕ)
+pub going-accepted : (total : ℕ) (s₀ : State) (out₀ : List ℕ) (n dead c : ℕ) (ranks : List Rank) (net : List Message) (tables : List (List ℕ)) (out : List ℕ) (k : ℕ) (ev : Event) (m : Message) (me : ℕ) (p : Plan) (v : List ℕ) (sent c′ : ℕ) (next : List Message) (d : ℕ)
     → Going total s₀ out₀ (held n dead c ranks net tables) out k → k < total → ev ≡ eventIn out k → m ≡ getD net (ev .a) zeroMessage → me ≡ subject n ev m
-    → p ≡ planned flat n dead c ev m me (getD ranks me zeroRank) (getD tables me []) → v ≡ written out k (p .answer) (size (p .acted .first) + size (p .acted .second)) (p .acted .moved .count) → p .answer ≡ 0
-    → j ≡ placed (posted (take c net) (ev .a) me p) → d ≡ cond (p .dies) (add dead me) dead
-    → Going total s₀ out₀ (held n d (j .count) (set ranks me (p .acted .rank)) (j .net) (set tables me (p .acted .row))) v (k + 1)
-going-accepted total s₀ out₀ n dead c ranks net tables out k ev m me p v j d g l ee em eg ep w z ej ed =
+    → p ≡ planned flat n dead c ev m me (getD ranks me zeroRank) (getD tables me []) → p .answer ≡ 0 → sent ≡ size (p .acted .first) + size (p .acted .second)
+    → c′ ≡ placed (posted (take c net) (ev .a) me p) .count → next ≡ placed (posted (take c net) (ev .a) me p) .net → v ≡ written out k 0 sent (p .acted .moved .count) → d ≡ cond (p .dies) (add dead me) dead
+    → Going total s₀ out₀ (held n d c′ (set ranks me (p .acted .rank)) next (set tables me (p .acted .row))) v (k + 1)
+going-accepted total s₀ out₀ n dead c ranks net tables out k ev m me p v sent c′ next d g l ee em eg ep z es ec en w ed =
     let s = held n dead c ranks net tables in
-    let u : State = held n d (j .count) (set ranks me (p .acted .rank)) (j .net) (set tables me (p .acted .row)) in
+    let u : State = held n d c′ (set ranks me (p .acted .rank)) next (set tables me (p .acted .row)) in
     let x = size (p .acted .first) in
     let y = size (p .acted .second) in
-    rw (w, z)
+    rw (w, es)
     (going-on total s₀ out₀ s out k (record { answer = 0; sent = x + y; moved = p .acted .moved; state = u }) g l
-    (step-accepted s ev m me tables p j d x y u em eg refl ep z ej ed refl refl refl ∙ sym (event-steps-on flat s ev (g .in-order)) ∙ ap (event flat s) ee))
+    (step-accepted s ev m me tables p c′ next d x y u em eg refl ep z ec en ed refl refl refl ∙ sym (event-steps-on flat s ev (g .in-order)) ∙ ap (event flat s) ee))
 
 -- All events played.
-pub going-end : (total : ℕ) (s : State) (t : List (List ℕ)) (out₀ : List ℕ) (u r : State) (out : List ℕ) (k : ℕ) → t ≡ s .tables → Going total (joined (s .group) t) out₀ u out k → total ≤ k → r ≡ u
+pub going-end : (total : ℕ) (s : State) (m : List Message) (t : List (List ℕ)) (out₀ : List ℕ) (u r : State) (out : List ℕ) (k : ℕ) → m ≡ s .group .net → t ≡ s .tables → Going total (parts s m t) out₀ u out k → total ≤ k → r ≡ u
     → (r ≡ played flat (eventIn out₀) total 0 s out₀ .state) × (out ≡ played flat (eventIn out₀) total 0 s out₀ .answers)
 unfolding played
-going-end total s t out₀ u r out k h g l f =
+going-end total s m t out₀ u r out k h i g l f =
     let z : total - k ≡ 0 = omega arith in
-    let e : _≡_ {A = Run} (record { answer = 0; state = u; answers = out }) (played flat (eventIn out₀) total 0 (joined (s .group) t) out₀) = subst (λ (x : ℕ). played flat (eventIn out₀) x k u out ≡ played flat (eventIn out₀) total 0 (joined (s .group) t) out₀) z (g .same-end) in
-    let q : _≡_ {A = Run} (record { answer = 0; state = u; answers = out }) (played flat (eventIn out₀) total 0 s out₀) = e ∙ ap (λ (x : List (List ℕ)). played flat (eventIn out₀) total 0 (joined (s .group) x) out₀) h in
+    let e : _≡_ {A = Run} (record { answer = 0; state = u; answers = out }) (played flat (eventIn out₀) total 0 (parts s m t) out₀) = subst (λ (x : ℕ). played flat (eventIn out₀) x k u out ≡ played flat (eventIn out₀) total 0 (parts s m t) out₀) z (g .same-end) in
+    let q : _≡_ {A = Run} (record { answer = 0; state = u; answers = out }) (played flat (eventIn out₀) total 0 s out₀) = e ∙ ap (λ (x : State). played flat (eventIn out₀) total 0 x out₀) (parts-are s m t h i) in
     (f ∙ ap (λ (x : Run). x .state) q, ap (λ (x : Run). x .answers) q)
+
+-- The list of messages put back.
+pub put-back : (n dead c : ℕ) (ranks : List Rank) (m net : List Message) (tables : List (List ℕ)) (r : State) → r ≡ held n dead c ranks m tables → m ≡ net → r ≡ held n dead c ranks net tables
+put-back n dead c ranks m net tables r e f = e ∙ rw f

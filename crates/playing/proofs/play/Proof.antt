@@ -2,29 +2,34 @@
 use borrow.Author.Needs.{needs}
 use Prim.Native.Nat.{_-_}
 use native.Mathlib.Omega.{arith}
+use Rattle.net.specs.Net.{messagesOf, Small}
 use Rattle.plans.proofs.Laws.Accepting.{step-place, step-room}
-use Rattle.playing.proofs.Laws.Going.{held, Going, going-begin, going-room, going-subject, going-ready, going-held, going-count, going-refused, going-accepted, going-end}
+use Rattle.group.proofs.Laws.Stepping.{step-held, step-count}
+use Rattle.playing.proofs.Laws.Going.{held, Going, going-begin, going-room, going-subject, going-ready, going-held, going-count, going-long, going-refused, going-accepted, going-end, put-back}
 use Rattle.playing.proofs.play.Statement.{statement}
 use Rattle.playing.proofs.play.Tie as tie
 
 abbrev Inv-loop : tie.InvT-loop
 Inv-loop total out₀ n dead₀ count₀ ranks₀ net₀ tables₀ k₀ out dead count ranks net tables k =
-    Going total (held n dead₀ count₀ ranks₀ net₀ tables₀) out₀ (held n dead count ranks net tables) out k
+    Going total (held n dead₀ count₀ ranks₀ (messagesOf net₀) tables₀) out₀ (held n dead count ranks (messagesOf net) tables) out k × Small net
 
 abbrev μ-loop : tie.MeasureT-loop
 μ-loop total out₀ n dead₀ count₀ ranks₀ net₀ tables₀ k₀ out dead count ranks net tables k = total - k
+
+numbers-requires : tie.Need-numbers-requires Inv-loop μ-loop
+numbers-requires c κs = (step-held _ (c .before .before .before .before .pre .0), step-count _ (c .before .before .before .before .pre .0))
 
 tables-of-requires : tie.Need-tables-of-requires Inv-loop μ-loop
 tables-of-requires c κs = search needs
 
 loop-holds : tie.Need-loop-holds Inv-loop μ-loop
-loop-holds c = going-begin _ _ _ _ (c .tables-of .ensures) (c .before .before .before .before .before .pre .1) (c .before .before .before .before .before .pre .0)
+loop-holds c = (going-begin _ _ _ _ _ (c .before .numbers .ensures .0) (c .tables-of .ensures) (c .before .before .before .before .before .before .pre .1) (c .before .before .before .before .before .before .pre .0), c .before .numbers .ensures .1)
 
 event-in-requires : tie.Need-event-in-requires Inv-loop μ-loop
 event-in-requires c κs = search going-room
 
-at-requires : tie.Need-at-requires Inv-loop μ-loop
-at-requires c κs = search needs
+message-at-requires : tie.Need-message-at-requires Inv-loop μ-loop
+message-at-requires c κs = going-long _ _ _ _ _ _ _ _ _ _ _ (c .before .before .before .before .loop .inv .0)
 
 subject-requires : tie.Need-subject-requires Inv-loop μ-loop
 subject-requires c κs = search needs
@@ -50,38 +55,48 @@ array-copy-out-row c = search going-subject
 plan-event-requires : tie.Need-plan-event-requires Inv-loop μ-loop
 plan-event-requires c κs = search going-ready
 
-tell-requires : tie.Need-tell-requires Inv-loop μ-loop
-tell-requires c κs = search going-room
+put-three-requires : tie.Need-put-three-requires Inv-loop μ-loop
+put-three-requires c κs =
+    let turn = c .before .before .before .before .before .before .before .before .before .before .before in
+    going-room _ _ _ _ _ _ (turn .before .loop .inv .0) (turn .loop-test .taken)
 
 add-k : tie.Need-add-k Inv-loop μ-loop
-add-k c = omega (arith, c .before .before .before .before .before .before .before .before .before .before .before .loop-test .taken, c .before .before .before .before .before .before .before .before .before .before .before .before .before .before .before .before .before .before .fits)
+add-k c = omega (arith, c .before .before .before .before .before .before .before .before .before .before .before .before .before .before .loop-test .taken, c .before .before .before .before .before .before .before .before .before .before .before .before .before .before .before .before .before .before .before .before .before .before .fits)
 
 loop-less : tie.Need-loop-less Inv-loop μ-loop
 loop-less c = search needs
 
 loop-again : tie.Need-loop-again Inv-loop μ-loop
 loop-again c =
-    let told = c .before .before .before .before in
-    let plan = told .before .before in
+    let put = c .before .before in
+    let turned = put .before .before in
+    let plan = turned .before .before in
     let subject = plan .before .before .before in
-    let event = subject .before .before in
+    let message = subject .before in
+    let event = message .before .before in
     let turn = event .before .before in
-    let loop = turn .before in
-    going-refused _ _ _ _ _ _ _ _ _ _ _ _ _ _ _ _ (loop .loop .inv) (turn .loop-test .taken) (event .event-in .ensures) (subject .before .at .ensures) (subject .subject .ensures) (plan .plan-event .ensures) (told .tell .ensures) (c .if1 .taken)
+    (going-refused _ _ _ _ _ _ _ _ _ _ _ _ _ _ _ _ (turn .before .loop .inv .0) (turn .loop-test .taken) (event .event-in .ensures) (message .message-at .ensures) (subject .subject .ensures) (plan .plan-event .ensures) (put .put-three .ensures) (turned .if1 .taken), turn .before .loop .inv .1)
 
 post-requires : tie.Need-post-requires Inv-loop μ-loop
 post-requires c κs =
-    let told = c .before .before .before .before in
-    let plan = told .before .before in
-    let loop = plan .before .before .before .before .before .before .before .before in
-    let taken = c .if1 .left in
-    (going-held _ _ _ _ _ _ _ _ _ _ _ (loop .loop .inv), (going-count _ _ _ _ _ _ _ _ _ _ _ (loop .loop .inv), (λ t. step-place _ _ _ _ _ _ _ _ _ (plan .plan-event .ensures) taken t, step-room _ _ _ _ _ _ _ _ _ (plan .plan-event .ensures) taken)))
+    let left = c .before in
+    let plan = left .before .before in
+    let inv = plan .before .before .before .before .before .before .before .before .before .loop .inv in
+    (going-held _ _ _ _ _ _ _ _ _ _ _ (inv .0), (going-count _ _ _ _ _ _ _ _ _ _ _ (inv .0), (λ t. step-place _ _ _ _ _ _ _ _ _ (plan .plan-event .ensures) (left .if1 .left) t, (step-room _ _ _ _ _ _ _ _ _ (plan .plan-event .ensures) (left .if1 .left), inv .1))))
+
+put-three-requires-2 : tie.Need-put-three-requires-2 Inv-loop μ-loop
+put-three-requires-2 c κs =
+    let turn = c .before .before .before .before .before .before .before .before .before .before .before .before .before .before .before in
+    going-room _ _ _ _ _ _ (turn .before .loop .inv .0) (turn .loop-test .taken)
+
+add-k-2 : tie.Need-add-k-2 Inv-loop μ-loop
+add-k-2 c = omega (arith, c .before .before .before .before .before .before .before .before .before .before .before .before .before .before .before .before .before .before .loop-test .taken, c .before .before .before .before .before .before .before .before .before .before .before .before .before .before .before .before .before .before .before .before .before .before .before .before .before .before .fits)
 
 buried-requires : tie.Need-buried-requires Inv-loop μ-loop
 buried-requires c κs =
-    let told = c .before .before .before .before .before .before in
-    let subject = told .before .before .before .before .before in
-    going-subject _ _ _ _ _ _ _ _ _ _ _ _ _ _ (subject .before .before .before .before .before .loop .inv) (subject .before .at .ensures) (subject .subject .ensures)
+    let plan = c .before .before .before .before .before .before .before .before .before .before in
+    let subject = plan .before .before .before in
+    going-subject _ _ _ _ _ _ _ _ _ _ _ _ _ _ (subject .before .before .before .before .before .before .loop .inv .0) (subject .before .message-at .ensures) (subject .subject .ensures)
 
 cast-ranks : tie.Need-cast-ranks Inv-loop μ-loop
 cast-ranks c = search needs
@@ -91,9 +106,9 @@ mul-ranks c = search needs
 
 array-set-from-ranks : tie.Need-array-set-from-ranks Inv-loop μ-loop
 array-set-from-ranks c =
-    let told = c .before .before .before .before .before .before .before .before .before .before in
-    let subject = told .before .before .before .before .before in
-    going-subject _ _ _ _ _ _ _ _ _ _ _ _ _ _ (subject .before .before .before .before .before .loop .inv) (subject .before .at .ensures) (subject .subject .ensures)
+    let plan = c .before .before .before .before .before .before .before .before .before .before .before .before .before in
+    let subject = plan .before .before .before in
+    going-subject _ _ _ _ _ _ _ _ _ _ _ _ _ _ (subject .before .before .before .before .before .before .loop .inv .0) (subject .before .message-at .ensures) (subject .subject .ensures)
 
 cast-tables : tie.Need-cast-tables Inv-loop μ-loop
 cast-tables c = search needs
@@ -103,23 +118,28 @@ mul-tables c = search needs
 
 array-set-from-tables : tie.Need-array-set-from-tables Inv-loop μ-loop
 array-set-from-tables c =
-    let told = c .before .before .before .before .before .before .before .before .before .before in
-    let subject = told .before .before .before .before .before in
-    going-subject _ _ _ _ _ _ _ _ _ _ _ _ _ _ (subject .before .before .before .before .before .loop .inv) (subject .before .at .ensures) (subject .subject .ensures)
+    let plan = c .before .before .before .before .before .before .before .before .before .before .before .before .before in
+    let subject = plan .before .before .before in
+    going-subject _ _ _ _ _ _ _ _ _ _ _ _ _ _ (subject .before .before .before .before .before .before .loop .inv .0) (subject .before .message-at .ensures) (subject .subject .ensures)
 
 loop-less-2 : tie.Need-loop-less-2 Inv-loop μ-loop
-loop-less-2 c = omega (arith, c .before .before .before .before .before .before .before .before .before .before .before .before .before .before .before .before .before .before .before .loop-test .taken)
+loop-less-2 c = omega (arith, c .before .before .before .before .before .before .before .before .before .before .before .before .before .before .before .before .before .before .before .before .before .loop-test .taken)
 
 loop-again-2 : tie.Need-loop-again-2 Inv-loop μ-loop
 loop-again-2 c =
-    let told = c .before .before .before .before .before .before .before .before .before .before in
-    let plan = told .before .before in
+    let buried = c .before .before in
+    let put = buried .before .before .before in
+    let forth = put .before .before .before .before in
+    let left = forth .before .before in
+    let plan = left .before .before in
     let subject = plan .before .before .before in
-    let event = subject .before .before in
+    let message = subject .before in
+    let event = message .before .before in
     let turn = event .before .before in
-    let loop = turn .before in
-    let forth = c .before .before .before .before .before in
-    going-accepted _ _ _ _ _ _ _ _ _ _ _ _ _ _ _ _ _ _ (loop .loop .inv) (turn .loop-test .taken) (event .event-in .ensures) (subject .before .at .ensures) (subject .subject .ensures) (plan .plan-event .ensures) (told .tell .ensures) (forth .before .if1 .left) (forth .post .ensures) (c .before .before .before .buried .ensures)
+    (going-accepted _ _ _ _ _ _ _ _ _ _ _ _ _ _ _ _ _ _ _ _ (turn .before .loop .inv .0) (turn .loop-test .taken) (event .event-in .ensures) (message .message-at .ensures) (subject .subject .ensures) (plan .plan-event .ensures) (left .if1 .left) (forth .post .ensures .1 .0) (forth .post .ensures .1 .1 .0) (forth .post .ensures .1 .1 .1) (put .put-three2 .ensures) (buried .buried .ensures), forth .post .ensures .0)
+
+messages-requires : tie.Need-messages-requires Inv-loop μ-loop
+messages-requires c κs = (going-held _ _ _ _ _ _ _ _ _ _ _ (c .before .loop .inv .0), going-count _ _ _ _ _ _ _ _ _ _ _ (c .before .loop .inv .0))
 
 assemble-requires : tie.Need-assemble-requires Inv-loop μ-loop
 assemble-requires c κs = search needs
@@ -128,7 +148,10 @@ same-length : tie.Need-same-length Inv-loop μ-loop
 same-length c = search needs
 
 returns : tie.Need-returns Inv-loop μ-loop
-returns c = going-end _ _ _ _ _ _ _ _ (c .before .before .before .tables-of .ensures) (c .before .before .loop .inv) (c .before .loop-test .left) (c .assemble .ensures)
+returns c =
+    let looped = c .before .before .before in
+    let tables = looped .before in
+    going-end _ _ _ _ _ _ _ _ _ (tables .before .numbers .ensures .0) (tables .tables-of .ensures) (looped .loop .inv .0) (c .before .before .loop-test .left) (put-back _ _ _ _ _ _ _ _ (c .assemble .ensures) (c .before .messages .ensures))
 
 pub play-spec : {M : Type 1} → statement M
 play-spec =
@@ -136,10 +159,11 @@ play-spec =
     (tie.spec
     Inv-loop
     μ-loop
+    numbers-requires
     tables-of-requires
     loop-holds
     event-in-requires
-    at-requires
+    message-at-requires
     subject-requires
     cast-r
     mul-r
@@ -148,11 +172,13 @@ play-spec =
     mul-row
     array-copy-out-row
     plan-event-requires
-    tell-requires
+    put-three-requires
     add-k
     loop-less
     loop-again
     post-requires
+    put-three-requires-2
+    add-k-2
     buried-requires
     cast-ranks
     mul-ranks
@@ -162,6 +188,7 @@ play-spec =
     array-set-from-tables
     loop-less-2
     loop-again-2
+    messages-requires
     assemble-requires
     same-length
     returns)

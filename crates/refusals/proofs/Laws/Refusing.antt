@@ -1,83 +1,108 @@
 -- Refusals along their code: the tests on the way pick the definition's case. Assumes nothing.
-use mathlib.Core.Path.{_≡_, refl, sym, ap, _∙_}
+use mathlib.Core.Path.{_≡_, refl, sym, _∙_}
 use mathlib.Core.Bool.{Bool, true, false, cond, not, _&&_, _||_}
 use mathlib.Core.Logic.{_⊎_, inl, inr}
 use Prim.Native.Nat.{ℕ, _≤_, _<_, _^_}
-use native.Mathlib.Nat.{le-trans}
 use native.Mathlib.Omega.{arith}
 use lib.Dec.{eqb, leb}
-use borrow.Author.Tests.{eqb-true, eq-eqb, ne-eqb, leb-false}
+use borrow.Author.Tests.{eqb-true, eq-eqb, ne-eqb, leb-false, le-leb, lt-leb}
 use Rattle.sets.specs.Sets.{has, only, minus, below}
-use Rattle.sets.proofs.Laws.Bools.{passes-or-fails, passes, and-i, and-not-r, clash, fails, or-r, or-l, or-none, not-i}
-use Rattle.sets.proofs.Laws.Members.{has-high, has-only, minus-l, has-below-ge}
+use Rattle.sets.proofs.Laws.Bools.{passes-or-fails, passes, and-i, clash, fails, or-l, or-none, or-neither, not-i}
+use Rattle.sets.proofs.Laws.Members.{has-high}
 use Rattle.rank.specs.declared.Rank.{Rank}
 use Rattle.rank.specs.declared.Message.{Message}
 use Rattle.rank.specs.Words.{outside}
 use Rattle.events.specs.declared.Event.{Event}
 use Rattle.events.specs.Events.{namesRank, namesPlace}
+use Rattle.events.proofs.Laws.Naming.{names-a-rank, rank-kinds}
 use Rattle.refusals.specs.Refusing.{isLast, wrongKind, wrongRank, noMessage, isDead, notOutside, isLiving, bothLive, lateRefusal, refusal}
 
 -- a number that is no rank of a word names nobody in it
 pub nobody : (w a : ℕ) → w < 2 ^ 64 → 64 ≤ a → false ≡ has w a
 nobody w a h l = sym (has-high w 64 a h l)
 
--- and is not the only living rank
-pub not-last : (n dead : ℕ) (ev : Event) → n ≤ 64 → 64 ≤ ev .a → false ≡ isLast n dead ev
-unfolding isLast
-not-last n dead ev s l =
-    sym (and-not-r (eqb (ev .kind) 3) (eqb (minus (below n) dead) (only (ev .a)))
-    (ne-eqb (minus (below n) dead) (only (ev .a)) (λ e. clash (has (below n) (ev .a)) (minus-l (below n) dead (ev .a) (ap (λ (w : ℕ). has w (ev .a)) e ∙ here)) (has-below-ge n (ev .a) (le-trans s l)))))
-  where
-    here : has (only (ev .a)) (ev .a) ≡ true
-    here = has-only (ev .a) (ev .a) ∙ eq-self
-      where
-        eq-self : eqb (ev .a) (ev .a) ≡ true
-        eq-self = eq-eqb (ev .a) (ev .a) refl
+-- a kind that is not refused and names no place names a rank
+pub names-one : (ev : Event) → wrongKind ev ≡ false → namesPlace (ev .kind) ≡ false → namesRank (ev .kind) ≡ true
+unfolding wrongKind
+names-one ev k p =
+    passes (namesRank (ev .kind)) (λ h. clash (not (namesRank (ev .kind) || namesPlace (ev .kind)) || (namesPlace (ev .kind) || eqb (ev .kind) 3) && not (eqb (ev .b) 0)) (or-l (not (namesRank (ev .kind) || namesPlace (ev .kind))) ((namesPlace (ev .kind) || eqb (ev .kind) 3) && not (eqb (ev .b) 0)) (not-i (namesRank (ev .kind) || namesPlace (ev .kind)) (or-none (namesRank (ev .kind)) (namesPlace (ev .kind)) h p))) k)
+
+-- a rank that is named is below n
+pub rank-below : (t : Bool) (n : ℕ) (ev : Event) → t ≡ wrongRank n ev → t ≡ false → namesRank (ev .kind) ≡ true → ev .a < n
+unfolding wrongRank
+rank-below t n ev e f p = leb-false n (ev .a) (rw p at (or-neither (namesRank (ev .kind) && leb n (ev .a)) (eqb (ev .kind) 4 && leb n (ev .b)) (sym e ∙ f) .0))
+
+-- and so is one that is told of
+pub told-below : (t : Bool) (n : ℕ) (ev : Event) → t ≡ wrongRank n ev → t ≡ false → ev .kind ≡ 4 → ev .b < n
+unfolding wrongRank
+told-below t n ev e f k = leb-false n (ev .b) (rw (eq-eqb (ev .kind) 4 k) at (or-neither (namesRank (ev .kind) && leb n (ev .a)) (eqb (ev .kind) 4 && leb n (ev .b)) (sym e ∙ f) .1))
+
+crash-kind : (kind : ℕ) → (kind ≡ 1) ⊎ ((kind ≡ 3) ⊎ (kind ≡ 4)) → (kind ≡ 1 → ⊥) → (kind ≡ 4 → ⊥) → kind ≡ 3
+crash-kind kind (inl e) x y = absurd (x e)
+crash-kind kind (inr (inl e)) x y = e
+crash-kind kind (inr (inr e)) x y = absurd (y e)
+
+not-loss : (kind : ℕ) → (kind ≡ 1) ⊎ ((kind ≡ 3) ⊎ (kind ≡ 4)) → eqb kind 5 ≡ false
+not-loss kind (inl e) = rw e
+not-loss kind (inr (inl e)) = rw e
+not-loss kind (inr (inr e)) = rw e
 
 module _ (n dead count : ℕ) (ev : Event) (r : Rank) (m : Message) where
-  pub late-7 : (t : Bool) → t ≡ notOutside ev r → t ≡ true → 7 ≡ lateRefusal n dead ev r m
-  unfolding lateRefusal
-  late-7 t e f = rw (sym e ∙ f)
-
-  pub late-8 : (t u : Bool) → t ≡ notOutside ev r → t ≡ false → u ≡ isLiving dead ev → u ≡ true → 8 ≡ lateRefusal n dead ev r m
-  unfolding lateRefusal
-  late-8 t u e f g h = rw (sym e ∙ f, sym g ∙ h)
-
-  pub late-9 : (t u v : Bool) → t ≡ notOutside ev r → t ≡ false → u ≡ isLiving dead ev → u ≡ false → v ≡ isLast n dead ev → v ≡ true → 9 ≡ lateRefusal n dead ev r m
-  unfolding lateRefusal
-  late-9 t u v e f g h i j = rw (sym e ∙ f, sym g ∙ h, sym i ∙ j)
-
-  pub late-10 : (t u v w : Bool) → t ≡ notOutside ev r → t ≡ false → u ≡ isLiving dead ev → u ≡ false → v ≡ isLast n dead ev → v ≡ false → w ≡ bothLive dead ev m → w ≡ true
-      → 10 ≡ lateRefusal n dead ev r m
-  unfolding lateRefusal
-  late-10 t u v w e f g h i j k l = rw (sym e ∙ f, sym g ∙ h, sym i ∙ j, sym k ∙ l)
-
-  pub late-0 : (t u v w : Bool) → t ≡ notOutside ev r → t ≡ false → u ≡ isLiving dead ev → u ≡ false → v ≡ isLast n dead ev → v ≡ false → w ≡ bothLive dead ev m → w ≡ false
-      → 0 ≡ lateRefusal n dead ev r m
-  unfolding lateRefusal
-  late-0 t u v w e f g h i j k l = rw (sym e ∙ f, sym g ∙ h, sym i ∙ j, sym k ∙ l)
-
   pub refusal-3 : (t : Bool) → t ≡ wrongKind ev → t ≡ true → 3 ≡ refusal n dead count ev r m
   unfolding refusal
   refusal-3 t e f = rw (sym e ∙ f)
 
-  pub refusal-4 : (t u : Bool) → t ≡ wrongKind ev → t ≡ false → u ≡ wrongRank n ev → u ≡ true → 4 ≡ refusal n dead count ev r m
-  unfolding refusal
-  refusal-4 t u e f g h = rw (sym e ∙ f, sym g ∙ h)
+  -- ---- an event that names a place
 
-  pub refusal-5 : (t u v : Bool) → t ≡ wrongKind ev → t ≡ false → u ≡ wrongRank n ev → u ≡ false → v ≡ noMessage count ev → v ≡ true → 5 ≡ refusal n dead count ev r m
-  unfolding refusal
-  refusal-5 t u v e f g h i j = rw (sym e ∙ f, sym g ∙ h, sym i ∙ j)
+  place-refusal : wrongKind ev ≡ false → namesPlace (ev .kind) ≡ true → refusal n dead count ev r m ≡ cond (leb count (ev .a)) 5 (cond (bothLive dead ev m) 10 0)
+  unfolding refusal lateRefusal wrongRank noMessage isDead notOutside isLiving isLast
+  place-refusal k p = rw (k, no-rank, other 4 (λ e. inr (inr e)), p, other 1 (λ e. inl e), other 3 (λ e. inr (inl e)))
+    where
+      no-rank : namesRank (ev .kind) ≡ false
+      no-rank = fails (namesRank (ev .kind)) (λ t. clash (namesPlace (ev .kind)) p (names-a-rank (ev .kind) (rank-kinds (ev .kind) t) .1))
 
-  pub refusal-6 : (t u v w : Bool) → t ≡ wrongKind ev → t ≡ false → u ≡ wrongRank n ev → u ≡ false → v ≡ noMessage count ev → v ≡ false → w ≡ isDead dead ev → w ≡ true
-      → 6 ≡ refusal n dead count ev r m
-  unfolding refusal
-  refusal-6 t u v w e f g h i j k l = rw (sym e ∙ f, sym g ∙ h, sym i ∙ j, sym k ∙ l)
+      other : (j : ℕ) → (ev .kind ≡ j → (ev .kind ≡ 1) ⊎ ((ev .kind ≡ 3) ⊎ (ev .kind ≡ 4))) → eqb (ev .kind) j ≡ false
+      other j f = ne-eqb (ev .kind) j (λ e. clash (namesPlace (ev .kind)) p (names-a-rank (ev .kind) (f e) .1))
 
-  pub refusal-late : (t u v w : Bool) (z : ℕ) → t ≡ wrongKind ev → t ≡ false → u ≡ wrongRank n ev → u ≡ false → v ≡ noMessage count ev → v ≡ false → w ≡ isDead dead ev → w ≡ false
-      → z ≡ lateRefusal n dead ev r m → z ≡ refusal n dead count ev r m
-  unfolding refusal
-  refusal-late t u v w z e f g h i j k l y = y ∙ rw (sym e ∙ f, sym g ∙ h, sym i ∙ j, sym k ∙ l)
+  pub place-5 : wrongKind ev ≡ false → namesPlace (ev .kind) ≡ true → count ≤ ev .a → 5 ≡ refusal n dead count ev r m
+  place-5 k p l = rw (place-refusal k p, le-leb count (ev .a) l)
+
+  pub place-loss : (z : ℕ) → wrongKind ev ≡ false → namesPlace (ev .kind) ≡ true → ev .a < count → ev .kind ≡ 5 → z ≡ cond (not (has dead (m .from)) && not (has dead (m .to))) 10 0
+      → z ≡ refusal n dead count ev r m
+  unfolding bothLive
+  place-loss z k p l e h = rw (place-refusal k p, lt-leb count (ev .a) l, eq-eqb (ev .kind) 5 e) h
+
+  pub place-0 : wrongKind ev ≡ false → namesPlace (ev .kind) ≡ true → ev .a < count → (ev .kind ≡ 5 → ⊥) → 0 ≡ refusal n dead count ev r m
+  unfolding bothLive
+  place-0 k p l x = rw (place-refusal k p, lt-leb count (ev .a) l, ne-eqb (ev .kind) 5 x)
+
+  -- ---- an event that names a rank
+
+  rank-refusal : wrongKind ev ≡ false → namesRank (ev .kind) ≡ true
+      → refusal n dead count ev r m ≡ cond (wrongRank n ev) 4 (cond (has dead (ev .a)) 6 (cond (notOutside ev r) 7 (cond (isLiving dead ev) 8 (cond (isLast n dead ev) 9 0))))
+  unfolding refusal lateRefusal noMessage isDead bothLive
+  rank-refusal k p = rw (k, names-a-rank (ev .kind) (rank-kinds (ev .kind) p) .1, p, not-loss (ev .kind) (rank-kinds (ev .kind) p))
+
+  pub rank-4 : (t : Bool) → wrongKind ev ≡ false → namesRank (ev .kind) ≡ true → t ≡ wrongRank n ev → t ≡ true → 4 ≡ refusal n dead count ev r m
+  rank-4 t k p e f = rw (rank-refusal k p, sym e ∙ f)
+
+  pub rank-6 : (t u : Bool) → wrongKind ev ≡ false → namesRank (ev .kind) ≡ true → t ≡ wrongRank n ev → t ≡ false → u ≡ has dead (ev .a) → u ≡ true → 6 ≡ refusal n dead count ev r m
+  rank-6 t u k p e f g h = rw (rank-refusal k p, sym e ∙ f, sym g ∙ h)
+
+  pub rank-enter : (t u : Bool) (z : ℕ) → wrongKind ev ≡ false → namesRank (ev .kind) ≡ true → t ≡ wrongRank n ev → t ≡ false → u ≡ has dead (ev .a) → u ≡ false
+      → ev .kind ≡ 1 → z ≡ cond (not (eqb (r .phase) outside)) 7 0 → z ≡ refusal n dead count ev r m
+  unfolding notOutside isLiving isLast
+  rank-enter t u z k p e f g h j y = rw (rank-refusal k p, sym e ∙ f, sym g ∙ h, j) y
+
+  pub rank-notice : (t u : Bool) (z : ℕ) → wrongKind ev ≡ false → namesRank (ev .kind) ≡ true → t ≡ wrongRank n ev → t ≡ false → u ≡ has dead (ev .a) → u ≡ false
+      → ev .kind ≡ 4 → z ≡ cond (not (has dead (ev .b))) 8 0 → z ≡ refusal n dead count ev r m
+  unfolding notOutside isLiving isLast
+  rank-notice t u z k p e f g h j y = rw (rank-refusal k p, sym e ∙ f, sym g ∙ h, j) y
+
+  pub rank-crash : (t u : Bool) (z : ℕ) → wrongKind ev ≡ false → namesRank (ev .kind) ≡ true → t ≡ wrongRank n ev → t ≡ false → u ≡ has dead (ev .a) → u ≡ false
+      → (ev .kind ≡ 1 → ⊥) → (ev .kind ≡ 4 → ⊥) → z ≡ cond (eqb (minus (below n) dead) (only (ev .a))) 9 0 → z ≡ refusal n dead count ev r m
+  unfolding notOutside isLiving isLast
+  rank-crash t u z k p e f g h i j y = rw (rank-refusal k p, sym e ∙ f, sym g ∙ h, crash-kind (ev .kind) (rank-kinds (ev .kind) p) i j) y
 
 -- ---- an event that none of these refuse
 
@@ -110,9 +135,7 @@ refusal-none n dead count ev r m e =
 
 -- a kind that names no place names a rank
 pub clean-names : (n dead c : ℕ) (ev : Event) (r : Rank) (m : Message) → Clean n dead c ev r m → namesPlace (ev .kind) ≡ false → namesRank (ev .kind) ≡ true
-unfolding wrongKind
-clean-names n dead c ev r m x t =
-    passes (namesRank (ev .kind)) (λ h. clash (not (namesRank (ev .kind) || namesPlace (ev .kind)) || (namesPlace (ev .kind) || eqb (ev .kind) 3) && not (eqb (ev .b) 0)) (or-l (not (namesRank (ev .kind) || namesPlace (ev .kind))) ((namesPlace (ev .kind) || eqb (ev .kind) 3) && not (eqb (ev .b) 0)) (not-i (namesRank (ev .kind) || namesPlace (ev .kind)) (or-none (namesRank (ev .kind)) (namesPlace (ev .kind)) h t))) (x .kind-right))
+clean-names n dead c ev r m x t = names-one ev (x .kind-right) t
 
 -- a place that is named holds a message
 pub clean-place : (n dead c : ℕ) (ev : Event) (r : Rank) (m : Message) → Clean n dead c ev r m → namesPlace (ev .kind) ≡ true → ev .a < c
@@ -121,16 +144,15 @@ clean-place n dead c ev r m x t = leb-false c (ev .a) (fails (leb c (ev .a)) (λ
 
 -- a rank that is named is below n and living, and the event is about it
 pub clean-rank : (n dead c : ℕ) (ev : Event) (r : Rank) (m : Message) → Clean n dead c ev r m → namesRank (ev .kind) ≡ true → (ev .a < n) × (has dead (ev .a) ≡ false)
-unfolding wrongRank isDead
+unfolding isDead
 clean-rank n dead c ev r m x t = (
-  leb-false n (ev .a) (fails (leb n (ev .a)) (λ h. clash (namesRank (ev .kind) && leb n (ev .a) || eqb (ev .kind) 4 && leb n (ev .b)) (or-l (namesRank (ev .kind) && leb n (ev .a)) (eqb (ev .kind) 4 && leb n (ev .b)) (and-i (namesRank (ev .kind)) (leb n (ev .a)) t h)) (x .rank-right))),
+  rank-below (wrongRank n ev) n ev refl (x .rank-right) t,
   fails (has dead (ev .a)) (λ h. clash (namesRank (ev .kind) && has dead (ev .a)) (and-i (namesRank (ev .kind)) (has dead (ev .a)) t h) (x .alive)),
 )
 
 -- and the rank that it is told of is below n
 pub clean-notice : (n dead c : ℕ) (ev : Event) (r : Rank) (m : Message) → Clean n dead c ev r m → ev .kind ≡ 4 → ev .b < n
-unfolding wrongRank
-clean-notice n dead c ev r m x k = leb-false n (ev .b) (fails (leb n (ev .b)) (λ h. clash (namesRank (ev .kind) && leb n (ev .a) || eqb (ev .kind) 4 && leb n (ev .b)) (or-r (namesRank (ev .kind) && leb n (ev .a)) (eqb (ev .kind) 4 && leb n (ev .b)) (and-i (eqb (ev .kind) 4) (leb n (ev .b)) (eq-eqb (ev .kind) 4 k) h)) (x .rank-right)))
+clean-notice n dead c ev r m x k = told-below (wrongRank n ev) n ev refl (x .rank-right) k
 
 -- a notice that is not refused names a rank of the group
 pub notice-names : (n dead count : ℕ) (ev : Event) (r : Rank) (m : Message) → refusal n dead count ev r m ≡ 0 → ev .kind ≡ 4 → ev .b < n

@@ -1,6 +1,7 @@
--- `refusal` meets its contract: the first test that passes gives the number. Assumes nothing.
+-- `refusal` meets its contract: a kind that is wrong, or what it names. Assumes nothing.
+use mathlib.Core.Path.{sym, _∙_}
 use borrow.Author.Needs.{needs}
-use Rattle.refusals.proofs.Laws.Refusing.{refusal-3, refusal-4, refusal-5, refusal-6, refusal-late}
+use Rattle.refusals.proofs.Laws.Refusing.{refusal-3, names-one}
 use Rattle.refusals.proofs.refusal.Statement.{statement}
 use Rattle.refusals.proofs.refusal.Tie as tie
 
@@ -10,29 +11,22 @@ wrong-kind-requires c κs = search needs
 returns : tie.Need-returns
 returns c = search refusal-3
 
-wrong-rank-requires : tie.Need-wrong-rank-requires
-wrong-rank-requires c κs = search needs
+names-place-requires : tie.Need-names-place-requires
+names-place-requires c κs = search needs
+
+of-place-requires : tie.Need-of-place-requires
+of-place-requires c κs = (sym (c .before .before .before .wrong-kind .ensures) ∙ c .before .before .if1 .left, sym (c .before .names-place .ensures) ∙ c .if2 .taken)
 
 returns-2 : tie.Need-returns-2
-returns-2 c = search refusal-4
+returns-2 c = c .of-place .ensures _ _
 
-no-message-requires : tie.Need-no-message-requires
-no-message-requires c κs = search needs
+of-rank-requires : tie.Need-of-rank-requires
+of-rank-requires c κs =
+    let right = sym (c .before .before .before .wrong-kind .ensures) ∙ c .before .before .if1 .left in
+    (search needs, (right, names-one _ right (sym (c .before .names-place .ensures) ∙ c .if2 .left)))
 
 returns-3 : tie.Need-returns-3
-returns-3 c = search refusal-5
-
-is-dead-requires : tie.Need-is-dead-requires
-is-dead-requires c κs = search needs
-
-returns-4 : tie.Need-returns-4
-returns-4 c = search refusal-6
-
-late-requires : tie.Need-late-requires
-late-requires c κs = search needs
-
-returns-5 : tie.Need-returns-5
-returns-5 c = search refusal-late
+returns-3 c = c .of-rank .ensures _ _
 
 pub refusal-spec : {M : Type 1} → statement M
 refusal-spec =
@@ -40,11 +34,8 @@ refusal-spec =
     (tie.spec
     wrong-kind-requires
     returns
-    wrong-rank-requires
+    names-place-requires
+    of-place-requires
     returns-2
-    no-message-requires
-    returns-3
-    is-dead-requires
-    returns-4
-    late-requires
-    returns-5)
+    of-rank-requires
+    returns-3)

@@ -13,7 +13,7 @@ use lib.Count.{ones, leadingZeros, trailingZeros, under, ones-cat, leading-top}
 use Rattle.sets.specs.Sets.{has, count, largest, smallest}
 use Rattle.sets.proofs.Laws.Bools.{clash}
 use Rattle.sets.proofs.Laws.Members.{has-zero, has-mod, has-high, halved, lowest, digit}
-use Rattle.sets.proofs.Laws.Searches.{Nobody, Smallest, Largest, smallest-is, smallest-none, largest-is, largest-none, count-cong}
+use Rattle.sets.proofs.Laws.Searches.{Nobody, Smallest, Largest, smallest-is, smallest-none, largest-is, largest-none, count-cong, count-none}
 
 -- ---- the zeros below the smallest member
 
@@ -98,3 +98,6 @@ ones-count (suc n) w h =
     let high : w / 2 ^ n < 2 = div-lt-iff-lt-mul (pow-pos n) .1 (subst (λ (x : ℕ). w < x) (pow-succ' 2 n) h) in
     ap ones (sym (split w n)) ∙ ones-cat n (w / 2 ^ n) (w % 2 ^ n) (mod-lt w (pow-pos n)) ∙ ap (λ (x : ℕ). ones (w / 2 ^ n) + x) low
     ∙ top-digit w n (w / 2 ^ n) (count (has w) n) refl high
+
+pub empty-count : (n : ℕ) → count (has 0) n ≡ 0
+empty-count n = count-none (has 0) n (λ k h. has-zero k)

@@ -1,17 +1,20 @@
 -- How a parent is found, by the words' own members: the largest unmarked ancestor, where ancestors are smaller; else the smallest unmarked
--- rank below, over any ancestor sets. Assumes nothing.
-use mathlib.Core.Path.{_≡_, sym, ap, _∙_}
-use mathlib.Core.Bool.{true, false}
-use Prim.Native.Nat.{ℕ, _≤_, _<_}
+-- rank below, over any ancestor sets. And before which rank nobody has q for a parent. Assumes nothing.
+use mathlib.Core.Path.{_≡_, sym, ap, subst, _∙_}
+use mathlib.Core.Bool.{true, false, cond}
+use mathlib.Core.Logic.{_⊎_, inl, inr, ⊎-elim}
+use Prim.Native.Nat.{ℕ, _+_, _≤_, _<_}
 use native.Mathlib.Omega.{arith}
-use borrow.Author.Tests.{ltb-true}
+use lib.Dec.{eqb}
+use borrow.Author.Tests.{ltb-true, eq-eqb}
 use Rattle.sets.specs.Sets.{none, has, minus, below, largest, smallest}
-use Rattle.sets.proofs.Laws.Bools.{clash}
+use Rattle.sets.proofs.Laws.Bools.{clash, passes-or-fails, cond-true, cond-false}
 use Rattle.sets.proofs.Laws.Members.{has-zero, minus-l, minus-r, minus-not, has-below-lt, has-below, none-in}
 use Rattle.sets.proofs.Laws.Searches.{TopOf, LeastOf, top, least, largest-cases, smallest-cases}
 use Rattle.tree.specs.Tree.{parent}
-use Rattle.tree.specs.Relations.{Above}
-use Rattle.tree.proofs.Laws.Parents.{Marked, nearest, lowest, nobody, parent-is}
+use Rattle.tree.specs.Relations.{Above, Ancestry}
+use Rattle.tree.proofs.Kin.{MayLead}
+use Rattle.tree.proofs.Laws.Parents.{Marked, nearest, lowest, nobody, parent-is, parent-leads}
 
 module _ (anc : ℕ → ℕ) (smaller : (p a : ℕ) → Above anc p a → a < p) where
   -- the nearest: the set of unmarked ancestors is not empty
@@ -64,3 +67,25 @@ module _ (anc : ℕ → ℕ) where
   finds-lowest marks p m line near under low r l a e z u v f =
       f ∙ ap (λ (x : ℕ). smallest (has x) m none) (v ∙ ap (λ (x : ℕ). minus x marks) u)
       ∙ lowest-member marks p m (omega arith) (sym (e ∙ ap (λ (x : ℕ). minus x marks) a) ∙ z)
+
+-- ---- who has q for a parent: descendants of q, and any rank above q where every rank below q is marked. `low` is where descendants of q begin.
+
+pub nobody-before : (anc : ℕ → ℕ) → Ancestry anc → (marks q low first : ℕ) → q < none → ((p : ℕ) → Above anc p q → low ≤ p) → first ≡ cond (eqb (minus (below q) marks) 0) (q + 1) low
+    → (p : ℕ) → p < first → parent anc marks p ≡ q → ⊥
+nobody-before anc tree marks q low first s h f p b e = go (passes-or-fails (eqb under 0))
+  where
+    under : ℕ
+    under = minus (below q) marks
+
+    led : MayLead anc marks p q
+    led = subst (λ (a : ℕ). MayLead anc marks p a) e (parent-leads anc tree marks p (λ x. omega arith))
+
+    emptied : ((k : ℕ) → k < q → Marked marks k) → under ≡ 0
+    emptied m = none-in under (λ k t. clash (has marks k) (m k (ltb-true k q (sym (has-below q k) ∙ minus-l (below q) marks k t))) (minus-r (below q) marks k t))
+
+    go : (eqb under 0 ≡ true) ⊎ (eqb under 0 ≡ false) → ⊥
+    go (inl t) = omega (arith, led .smaller, f ∙ cond-true (eqb under 0) (q + 1) low t)
+    go (inr t) =
+        ⊎-elim (λ (u : Above anc p q). omega (arith, h p u, f ∙ cond-false (eqb under 0) (q + 1) low t))
+        (λ (m : (k : ℕ) → k < q → Marked marks k). clash (eqb under 0) (eq-eqb under 0 (emptied m)) t)
+        (led .either)

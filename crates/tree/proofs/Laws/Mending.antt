@@ -1,7 +1,7 @@
 -- Mending, over any ancestor sets: one newly known death moves exactly the links that ended at the dead rank, so a table that is
 -- fresh becomes the fresh one by working those out anew. Assumes nothing.
 use mathlib.Core.Path.{_≡_, refl, sym, ap, ap₂, subst, _∙_}
-use mathlib.Core.Bool.{Bool, true, false, not, _&&_, _||_}
+use mathlib.Core.Bool.{Bool, true, false, cond, not, _&&_, _||_}
 use mathlib.Core.List.{List}
 use mathlib.Core.Logic.{⊎-elim}
 use Prim.Native.Nat.{ℕ, zero, suc, _+_, _*_, _≤_, _<_}
@@ -11,14 +11,14 @@ use lib.Dec.{eqb, ltb}
 use lib.ListN.{getD, set, replicate}
 use borrow.Author.Tests.{eq-eqb, ne-eqb, lt-ltb, le-ltb}
 use Rattle.sets.specs.Sets.{none, has, add, minus, union, below, setOf, count, some}
-use Rattle.sets.proofs.Laws.Bools.{clash, lt-or-le, eq-or-ne, and-not-r, not-i, not-o}
-use Rattle.sets.proofs.Laws.Members.{add-again, has-zero, has-union, has-setOf, none-in, setOf-passes, setOf-cong, setOf-put, setOf-skip, setOf-zero, minus-setOf, union-below-suc, union-below-zero}
+use Rattle.sets.proofs.Laws.Bools.{clash, lt-or-le, eq-or-ne, same-test, and-not-r, not-i, not-o}
+use Rattle.sets.proofs.Laws.Members.{add-again, has-zero, has-union, has-setOf, none-in, ext, setOf-passes, setOf-within, setOf-has, setOf-cong, setOf-put, setOf-skip, setOf-zero, minus-setOf, union-below-suc, union-below-zero}
 use Rattle.sets.proofs.Laws.Searches.{count-none, count-le, some-zero, some-suc}
 use Rattle.tree.specs.Tree.{parent, children, entry, fresh, moves, sized, moved, endedAt, nobody}
 use Rattle.tree.specs.Calls.{mended, mendedBelow, movedBelow, andThen}
 use Rattle.tree.specs.declared.Moved.{Moved}
 use Rattle.tree.specs.declared.Mended.{Mended}
-use Rattle.tree.proofs.Laws.Rows.{Patched, patched-start, patched-put, patched-keep, patched-end, entry-below, entry-past, fresh-at, row-replicate}
+use Rattle.tree.proofs.Laws.Rows.{Patched, patched-start, patched-from, patched-put, patched-keep, patched-end, entry-below, entry-past, fresh-at, row-replicate}
 use Rattle.tree.proofs.Laws.Parents.{Marked, parent-free, parent-stays, parent-leaves}
 
 -- One newly known death moves exactly the links that ended at the dead rank: those move, and no other does.
@@ -111,19 +111,53 @@ moved-le : (anc : ℕ → ℕ) (n marks q : ℕ) → moved anc n marks q .count 
 unfolding moved sized
 moved-le anc n marks q = count-le (has (setOf (moves anc marks q) n)) 64
 
+-- ---- the scan of `mend` and `children_of`: the set holds the ranks before i whose parent is q. It starts where nobody before has q for a
+-- parent, which may be past the group.
+
+-- where nobody from n on passes, n is bound enough
+setOf-cut : (f : ℕ → Bool) (n i : ℕ) → n ≤ i → ((k : ℕ) → n ≤ k → k < i → f k ≡ false) → setOf f i ≡ setOf f n
+setOf-cut f n i h past = ext (setOf f i) (setOf f n) (λ k. same-test (has (setOf f i) k) (has (setOf f n) k) (fewer k) (λ t. setOf-has f i k (omega (arith, setOf-within f n k t)) (setOf-passes f n k t)))
+  where
+    fewer : (k : ℕ) → has (setOf f i) k ≡ true → has (setOf f n) k ≡ true
+    fewer k t = ⊎-elim (λ (l : k < n). setOf-has f n k l (setOf-passes f i k t)) (λ (l : n ≤ k). absurd (clash (f k) (setOf-passes f i k t) (past k l (setOf-within f i k t)))) (lt-or-le k n)
+
+pub record Pointing (anc : ℕ → ℕ) (n marks q i w : ℕ) : Type 0 where
+  pub past : (p : ℕ) → n ≤ p → p < i → parent anc marks p ≡ q → ⊥
+  pub held : w ≡ setOf (λ p. eqb (parent anc marks p) q) i
+
+pub pointing-start : (anc : ℕ → ℕ) (n marks q i : ℕ) → ((p : ℕ) → p < i → parent anc marks p ≡ q → ⊥) → Pointing anc n marks q i 0
+pointing-start anc n marks q i h = record {
+  past = λ p b l. h p l;
+  held = sym (setOf-cut (λ p. eqb (parent anc marks p) q) 0 i (omega arith) (λ p b l. ne-eqb (parent anc marks p) q (h p l)) ∙ setOf-zero (λ p. eqb (parent anc marks p) q));
+}
+
+pointing-put : (anc : ℕ → ℕ) (n marks q i w s w′ : ℕ) → Pointing anc n marks q i w → i < n → parent anc marks i ≡ q → s ≡ add w i → w′ ≡ s → Pointing anc n marks q (i + 1) w′
+pointing-put anc n marks q i w s w′ m l e es ew = record {
+  past = λ p b o. absurd (omega arith);
+  held = ew ∙ es ∙ setOf-put (λ p. eqb (parent anc marks p) q) i w (m .held) (eq-eqb (parent anc marks i) q e);
+}
+
+pointing-skip : (anc : ℕ → ℕ) (n marks q i w w′ : ℕ) → Pointing anc n marks q i w → i < n → (parent anc marks i ≡ q → ⊥) → w′ ≡ w → Pointing anc n marks q (i + 1) w′
+pointing-skip anc n marks q i w w′ m l d ew = record {
+  past = λ p b o. absurd (omega arith);
+  held = ew ∙ setOf-skip (λ p. eqb (parent anc marks p) q) i w (m .held) (ne-eqb (parent anc marks i) q d);
+}
+
+pointing-end : (anc : ℕ → ℕ) (n marks q i w : ℕ) → Pointing anc n marks q i w → n ≤ i → w ≡ setOf (λ p. eqb (parent anc marks p) q) n
+pointing-end anc n marks q i w m h = m .held ∙ setOf-cut (λ p. eqb (parent anc marks p) q) n i h (λ p b l. ne-eqb (parent anc marks p) q (m .past p b l))
+
 -- ---- the loop of `mend`: the first i entries are the new table's, and the set holds those of them that pointed at q
 
 pub record Mending (anc : ℕ → ℕ) (n marks q i : ℕ) (t : List ℕ) (w : ℕ) : Type 0 where
-  pub within : i ≤ n
   pub table : Patched 0 (entry anc n (add marks q)) (entry anc n marks) 64 i t
-  pub changed : w ≡ setOf (λ p. eqb (parent anc marks p) q) i
+  pub changed : Pointing anc n marks q i w
 
-pub mending-start : (anc : ℕ → ℕ) (n marks q : ℕ) (t : List ℕ) → t ≡ fresh anc n marks → Mending anc n marks q 0 t 0
-unfolding fresh
-mending-start anc n marks q t e = record {
-  within = omega arith;
-  table = patched-start 0 (entry anc n (add marks q)) (entry anc n marks) 64 t e;
-  changed = sym (setOf-zero (λ p. eqb (parent anc marks p) q));
+-- before the first entry the two tables are the same
+pub mending-start : (anc : ℕ → ℕ) (n marks q i : ℕ) (t : List ℕ) → t ≡ fresh anc n marks → ((p : ℕ) → p < i → parent anc marks p ≡ q → ⊥) → Mending anc n marks q i t 0
+unfolding fresh entry
+mending-start anc n marks q i t e h = record {
+  table = patched-from 0 (entry anc n (add marks q)) (entry anc n marks) 64 i t e (λ p l. ap (λ (x : ℕ). cond (ltb p n) x none) (sym (parent-stays anc marks q p (h p l))));
+  changed = pointing-start anc n marks q i h;
 }
 
 -- what stands at i is still the old parent
@@ -133,9 +167,8 @@ mending-reads anc n marks q i t w s m l = m .table .rest i (omega arith) (omega 
 pub mending-put : (anc : ℕ → ℕ) (n marks q i : ℕ) (t : List ℕ) (w after v s : ℕ) (t′ : List ℕ) (w′ : ℕ) → n ≤ 64 → Mending anc n marks q i t w → i < n → getD t i 0 ≡ q
     → after ≡ add marks q → v ≡ parent anc after i → t′ ≡ set t i v → s ≡ add w i → w′ ≡ s → Mending anc n marks q (i + 1) t′ w′
 mending-put anc n marks q i t w after v s t′ w′ b m l h ea ev et es ew = record {
-  within = omega arith;
   table = rw et (patched-put 0 (entry anc n (add marks q)) (entry anc n marks) 64 i v t (m .table) (omega arith) (ev ∙ ap (λ (x : ℕ). parent anc x i) ea ∙ sym (entry-below anc n (add marks q) i l)));
-  changed = ew ∙ es ∙ setOf-put (λ p. eqb (parent anc marks p) q) i w (m .changed) (eq-eqb (parent anc marks i) q (sym (mending-reads anc n marks q i t w b m l) ∙ h));
+  changed = pointing-put anc n marks q i w s w′ (m .changed) l (sym (mending-reads anc n marks q i t w b m l) ∙ h) es ew;
 }
 
 pub mending-keep : (anc : ℕ → ℕ) (n marks q i : ℕ) (t : List ℕ) (w : ℕ) (t′ : List ℕ) (w′ : ℕ) → n ≤ 64 → Mending anc n marks q i t w → i < n → (getD t i 0 ≡ q → ⊥)
@@ -143,9 +176,8 @@ pub mending-keep : (anc : ℕ → ℕ) (n marks q i : ℕ) (t : List ℕ) (w : �
 mending-keep anc n marks q i t w t′ w′ b m l h et ew =
     let d : parent anc marks i ≡ q → ⊥ = λ x. h (mending-reads anc n marks q i t w b m l ∙ x) in
     record {
-      within = omega arith;
       table = rw et (patched-keep 0 (entry anc n (add marks q)) (entry anc n marks) 64 i t (m .table) (entry-below anc n marks i l ∙ sym (parent-stays anc marks q i d) ∙ sym (entry-below anc n (add marks q) i l)));
-      changed = ew ∙ setOf-skip (λ p. eqb (parent anc marks p) q) i w (m .changed) (ne-eqb (parent anc marks i) q d);
+      changed = pointing-skip anc n marks q i w w′ (m .changed) l d ew;
     }
 
 pub mending-table : (anc : ℕ → ℕ) (n marks q i : ℕ) (t : List ℕ) (w : ℕ) → Mending anc n marks q i t w → n ≤ i → t ≡ fresh anc n (add marks q)
@@ -154,8 +186,7 @@ mending-table anc n marks q i t w m h = patched-end 0 (entry anc n (add marks q)
 
 mending-ranks : (anc : ℕ → ℕ) (n marks q i : ℕ) (t : List ℕ) (w : ℕ) → q < none → Mending anc n marks q i t w → n ≤ i → minus w (add marks q) ≡ setOf (moves anc marks q) n
 mending-ranks anc n marks q i t w b m h =
-    let e : i ≡ n = omega (arith, m .within) in
-    ap (λ (x : ℕ). minus x (add marks q)) (m .changed ∙ ap (setOf (λ p. eqb (parent anc marks p) q)) e)
+    ap (λ (x : ℕ). minus x (add marks q)) (pointing-end anc n marks q i w (m .changed) h)
     ∙ minus-setOf (λ p. eqb (parent anc marks p) q) n (add marks q)
     ∙ sym (setOf-cong (moves anc marks q) (λ p. not (has (add marks q) p) && eqb (parent anc marks p) q) n (λ p l. moves-linked anc marks q p b))
 
@@ -214,32 +245,17 @@ below-few anc n start q k marks t v m h b l o e =
     let c : v .count ≤ 64 * k = subst (λ (x : Moved). x .count ≤ 64 * k) (sym (b .moved-is)) (moved-below-le anc n start k) in
     omega arith
 
--- ---- the loop of `children_of`: the set holds the ranks before i whose entry is p
+-- ---- the loop of `children_of`: each entry is read off the fresh table
 
-pub record Pointing (anc : ℕ → ℕ) (n marks p i w : ℕ) : Type 0 where
-  pub within : i ≤ n
-  pub held : w ≡ setOf (λ c. eqb (parent anc marks c) p) i
+pub children-put : (anc : ℕ → ℕ) (n marks p i : ℕ) (t : List ℕ) (w s w′ : ℕ) → n ≤ 64 → t ≡ fresh anc n marks → Pointing anc n marks p i w → i < n → getD t i 0 ≡ p → s ≡ add w i → w′ ≡ s → Pointing anc n marks p (i + 1) w′
+children-put anc n marks p i t w s w′ b et h l e es ew = pointing-put anc n marks p i w s w′ h l (sym (fresh-at anc n marks i b l) ∙ ap (λ (x : List ℕ). getD x i 0) (sym et) ∙ e) es ew
 
-pub pointing-start : (anc : ℕ → ℕ) (n marks p : ℕ) → Pointing anc n marks p 0 0
-pointing-start anc n marks p = record { within = omega arith; held = sym (setOf-zero (λ c. eqb (parent anc marks c) p)) }
+pub children-skip : (anc : ℕ → ℕ) (n marks p i : ℕ) (t : List ℕ) (w w′ : ℕ) → n ≤ 64 → t ≡ fresh anc n marks → Pointing anc n marks p i w → i < n → (getD t i 0 ≡ p → ⊥) → w′ ≡ w → Pointing anc n marks p (i + 1) w′
+children-skip anc n marks p i t w w′ b et h l d ew = pointing-skip anc n marks p i w w′ h l (λ x. d (ap (λ (y : List ℕ). getD y i 0) et ∙ fresh-at anc n marks i b l ∙ x)) ew
 
-pub pointing-put : (anc : ℕ → ℕ) (n marks p i : ℕ) (t : List ℕ) (w s w′ : ℕ) → n ≤ 64 → t ≡ fresh anc n marks → Pointing anc n marks p i w → i < n → getD t i 0 ≡ p → s ≡ add w i → w′ ≡ s → Pointing anc n marks p (i + 1) w′
-pointing-put anc n marks p i t w s w′ b et h l e es ew = record {
-  within = omega arith;
-  held = ew ∙ es ∙ setOf-put (λ c. eqb (parent anc marks c) p) i w (h .held) (eq-eqb (parent anc marks i) p (sym (fresh-at anc n marks i b l) ∙ ap (λ (x : List ℕ). getD x i 0) (sym et) ∙ e));
-}
-
-pub pointing-skip : (anc : ℕ → ℕ) (n marks p i : ℕ) (t : List ℕ) (w w′ : ℕ) → n ≤ 64 → t ≡ fresh anc n marks → Pointing anc n marks p i w → i < n → (getD t i 0 ≡ p → ⊥) → w′ ≡ w → Pointing anc n marks p (i + 1) w′
-pointing-skip anc n marks p i t w w′ b et h l d ew = record {
-  within = omega arith;
-  held = ew ∙ setOf-skip (λ c. eqb (parent anc marks c) p) i w (h .held) (ne-eqb (parent anc marks i) p (λ x. d (ap (λ (y : List ℕ). getD y i 0) et ∙ fresh-at anc n marks i b l ∙ x)));
-}
-
-pub pointing-end : (anc : ℕ → ℕ) (n marks p i w r : ℕ) → Pointing anc n marks p i w → n ≤ i → r ≡ minus w marks → r ≡ children anc n marks p
+pub children-end : (anc : ℕ → ℕ) (n marks p i w r : ℕ) → Pointing anc n marks p i w → n ≤ i → r ≡ minus w marks → r ≡ children anc n marks p
 unfolding children
-pointing-end anc n marks p i w r h l e =
-    let q : i ≡ n = omega (arith, h .within) in
-    e ∙ ap (λ (x : ℕ). minus x marks) (h .held ∙ ap (setOf (λ c. eqb (parent anc marks c) p)) q) ∙ minus-setOf (λ c. eqb (parent anc marks c) p) n marks
+children-end anc n marks p i w r h l e = e ∙ ap (λ (x : ℕ). minus x marks) (pointing-end anc n marks p i w h l) ∙ minus-setOf (λ c. eqb (parent anc marks c) p) n marks
 
 -- ---- the loop of `fresh`: the first i entries are the fresh table's, the others 255
 

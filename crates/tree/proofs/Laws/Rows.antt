@@ -52,12 +52,15 @@ module _ {A : Type 0} where
     pub done : (k : ℕ) → k < i → k < m → getD t k d ≡ f k
     pub rest : (k : ℕ) → i ≤ k → k < m → getD t k d ≡ g k
 
+  -- it starts anywhere, where f and g are the same before
+  pub patched-from : (d : A) (f g : ℕ → A) (m i : ℕ) (t : List A) → t ≡ row g m → ((k : ℕ) → k < i → g k ≡ f k) → Patched d f g m i t
+  patched-from d f g m i t e h = record { long = ap length e ∙ length-row g m; done = λ k l b. at k b ∙ h k l; rest = λ k l b. at k b }
+    where
+      at : (k : ℕ) → k < m → getD t k d ≡ g k
+      at k b = ap (λ (s : List A). getD s k d) e ∙ getD-row g m k d b
+
   pub patched-start : (d : A) (f g : ℕ → A) (m : ℕ) (t : List A) → t ≡ row g m → Patched d f g m 0 t
-  patched-start d f g m t e = record {
-    long = ap length e ∙ length-row g m;
-    done = λ k l. absurd (omega arith);
-    rest = λ k l b. ap (λ (s : List A). getD s k d) e ∙ getD-row g m k d b;
-  }
+  patched-start d f g m t e = patched-from d f g m 0 t e (λ k l. absurd (omega arith))
 
   pub patched-put : (d : A) (f g : ℕ → A) (m i : ℕ) (v : A) (t : List A) → Patched d f g m i t → i < m → v ≡ f i → Patched d f g m (i + 1) (set t i v)
   patched-put d f g m i v t p l e = record {

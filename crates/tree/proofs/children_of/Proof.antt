@@ -1,10 +1,12 @@
--- `tree::children_of` meets its contract. The invariant: the set holds the ranks before c whose entry is p.
--- Assumes nothing.
+-- `tree::children_of` meets its contract. The invariant: the set holds the ranks before c whose parent is p. Before the first c
+-- there is none. Assumes nothing.
 use mathlib.Core.Logic.{⊎-elim}
 use Prim.Native.Nat.{_-_}
+use native.Mathlib.Omega.{arith}
 use borrow.Author.Needs.{needs}
 use Rattle.tree.specs.Tree.{flat}
-use Rattle.tree.proofs.Laws.Mending.{Pointing, pointing-start, pointing-put, pointing-skip, pointing-end}
+use Rattle.tree.proofs.Laws.Flat.{flat-first}
+use Rattle.tree.proofs.Laws.Mending.{Pointing, pointing-start, children-put, children-skip, children-end}
 use Rattle.tree.proofs.children_of.Statement.{statement}
 use Rattle.tree.proofs.children_of.Tie as tie
 
@@ -14,8 +16,11 @@ Inv-loop n marks p table pointing₀ c₀ pointing c = Pointing flat n marks p c
 abbrev μ-loop : tie.MeasureT-loop
 μ-loop n marks p table pointing₀ c₀ pointing c = n - c
 
+first-below-requires : tie.Need-first-below-requires Inv-loop μ-loop
+first-below-requires c κs = search needs
+
 loop-holds : tie.Need-loop-holds Inv-loop μ-loop
-loop-holds c = search pointing-start
+loop-holds c = pointing-start _ _ _ _ _ (flat-first _ _ _ (omega arith) (c .first-below .ensures))
 
 cast-if1 : tie.Need-cast-if1 Inv-loop μ-loop
 cast-if1 c = search needs
@@ -33,13 +38,13 @@ loop-less : tie.Need-loop-less Inv-loop μ-loop
 loop-less c = search needs
 
 loop-again : tie.Need-loop-again Inv-loop μ-loop
-loop-again c = ⊎-elim (λ w. search pointing-put) (λ w. search pointing-skip) (c .if1 .came)
+loop-again c = ⊎-elim (λ w. search children-put) (λ w. search children-skip) (c .if1 .came)
 
 minus-requires : tie.Need-minus-requires Inv-loop μ-loop
 minus-requires c κs = search needs
 
 returns : tie.Need-returns Inv-loop μ-loop
-returns c = search pointing-end
+returns c = search children-end
 
 pub children-of-spec : {M : Type 1} → statement M
 children-of-spec =
@@ -47,6 +52,7 @@ children-of-spec =
     (tie.spec
     Inv-loop
     μ-loop
+    first-below-requires
     loop-holds
     cast-if1
     array-read-if1

@@ -1,11 +1,14 @@
 -- `tree::mend` meets its contract. Entries that did not point at q stay, those that did are worked out anew. The invariant: the
--- first p entries are the new table's, the others the old table's, and the set holds those that pointed at q. Assumes nothing.
+-- first p entries are the new table's, the others the old table's, and the set holds those that pointed at q. Before the first p none did.
+-- Assumes nothing.
 use mathlib.Core.Path.{_≡_}
 use mathlib.Core.Logic.{⊎-elim}
 use Prim.Native.Nat.{_-_}
+use native.Mathlib.Omega.{arith}
 use borrow.Author.Needs.{needs}
 use Rattle.sets.specs.Sets.{add}
 use Rattle.tree.specs.Tree.{flat}
+use Rattle.tree.proofs.Laws.Flat.{flat-first}
 use Rattle.tree.proofs.Laws.Mending.{Mending, mended-again, mending-start, mending-put, mending-keep, mending-end}
 use Rattle.tree.proofs.mend.Statement.{statement}
 use Rattle.tree.proofs.mend.Tie as tie
@@ -28,8 +31,11 @@ returns c = search mended-again
 with-requires : tie.Need-with-requires Inv-loop μ-loop
 with-requires c κs = search needs
 
+first-below-requires : tie.Need-first-below-requires Inv-loop μ-loop
+first-below-requires c κs = search needs
+
 loop-holds : tie.Need-loop-holds Inv-loop μ-loop
-loop-holds c = search mending-start
+loop-holds c = (c .before .with .ensures, mending-start _ _ _ _ _ _ (search needs) (flat-first _ _ _ (omega arith) (c .first-below .ensures)))
 
 cast-if2 : tie.Need-cast-if2 Inv-loop μ-loop
 cast-if2 c = search needs
@@ -59,7 +65,7 @@ loop-again : tie.Need-loop-again Inv-loop μ-loop
 loop-again c =
     let turn = c .before .before in
     ⊎-elim
-    (λ w. (turn .loop .inv .0, mending-put _ _ _ _ _ _ _ _ _ _ _ _ (turn .before .before .before .before .pre .0) (turn .loop .inv .1) (c .before .loop-test .taken) (w .0 .taken) (turn .loop .inv .0) (w .1 .ensures) (w .3) (w .2 .ensures) (w .4)))
+    (λ w. (turn .loop .inv .0, mending-put _ _ _ _ _ _ _ _ _ _ _ _ (turn .before .before .before .before .before .pre .0) (turn .loop .inv .1) (c .before .loop-test .taken) (w .0 .taken) (turn .loop .inv .0) (w .1 .ensures) (w .3) (w .2 .ensures) (w .4)))
     (λ w. search mending-keep)
     (c .if2 .came)
 
@@ -82,6 +88,7 @@ mend-spec =
     nobody-requires
     returns
     with-requires
+    first-below-requires
     loop-holds
     cast-if2
     array-read-if2

@@ -1,4 +1,5 @@
 -- `Rank::view` meets its contract: the children are read off the new table. Assumes nothing.
+use native.Mathlib.Omega.{arith}
 use borrow.Author.Needs.{needs}
 use Rattle.rank.specs.Records.{viewing}
 use Rattle.rank.proofs.Laws.Acting.{view-returns}
@@ -7,7 +8,7 @@ use Rattle.rank.proofs.Rank.view.Tie as tie
 
 children-of-requires : tie.Need-children-of-requires
 unfolding viewing
-children-of-requires c κs = (c .pre .size, c .pre .table)
+children-of-requires c κs = (c .pre .size, (omega arith, c .pre .table))
 
 minus-requires : tie.Need-minus-requires
 minus-requires c κs = search needs

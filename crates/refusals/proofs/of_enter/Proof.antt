@@ -1,0 +1,12 @@
+-- `of_enter` meets its contract. Assumes nothing.
+use Rattle.refusals.proofs.of_enter.Statement.{statement}
+use Rattle.refusals.proofs.of_enter.Tie as tie
+
+returns : tie.Need-returns
+returns c = rw (c .if1 .taken)
+
+returns-2 : tie.Need-returns-2
+returns-2 c = rw (c .if1 .left)
+
+pub of-enter-spec : {M : Type 1} → statement M
+of-enter-spec = tie.close (tie.spec returns returns-2)
