@@ -102,7 +102,9 @@ pub fn play(total: usize, out: &mut [u32], s: State) -> State
         let rank = acted.rank;
         let table = acted.row;
         ranks[me as usize] = rank;
-        tables[me as usize] = table;
+        if rank.marks != r.marks {
+            tables[me as usize] = table;
+        }
     }
     let messages = net::messages(net, count);
     assemble(n, dead, count, ranks, messages, tables)

@@ -2,11 +2,12 @@
 // A record goes in by value and the new record comes back, with its row of the tables, what it sends, and moved.
 use tree::Moved;
 ghost use mathlib.Core.Path.{_≡_};
-ghost use Prim.Native.Nat.{_<_, _≤_};
+ghost use Prim.Native.Nat.{ℕ, _<_, _≤_};
 ghost use mathlib.Core.Bool.{_&&_, false};
 ghost use lib.Dec.{eqb};
 ghost use Rattle.sets.specs.Sets.{has, none};
-ghost use Rattle.tree.specs.Tree.{flat};
+ghost use Rattle.tree.specs.Tree.{flat, parent};
+ghost use Rattle.tree.specs.Calls.{mended};
 ghost use Rattle.rank.specs.Words.{combine, gathering, waiting};
 ghost use Rattle.rank.specs.Records.{awaiting, childrenOf, freshRank, parentOf, viewing};
 ghost use Rattle.rank.specs.Sends.{asks, reports, silent, tells};
@@ -257,28 +258,35 @@ impl Rank {
         }
     }
 
-    // A new view, with its table.
-    fn view(mut self, n: u8, me: u8, marks: u64, row: [u8; 64]) -> Rank
+    // A new view, with its table, and who moved by it: awaited are those who stayed and those who came, if not heard and not marked.
+    fn view(mut self, n: u8, me: u8, marks: u64, row: [u8; 64], moved: u64) -> Rank
         requires { ⌜ FreshRow flat n me (viewing flat n me marks self) row ⌝ }
+        requires { ⌜ self .awaited ≡ awaiting flat n me (self .marks) (self .heard) ⌝ }
+        requires { ⌜ ((p : ℕ) → has marks p ≡ false → has (self .marks) p ≡ false) ⌝ }
+        requires { ⌜ ((p : ℕ) → p < n → has marks p ≡ false → has moved p ≡ false → parent flat marks p ≡ parent flat (self .marks) p) ⌝ }
         ensures { λ r. ⌜ r ≡ viewing flat n me marks self ⌝ }
     {
+        let stayed = sets::minus(self.awaited, moved);
+        let came = tree::pointing(row, moved, me);
+        let unheard = sets::minus(sets::union(stayed, came), self.heard);
         self.marks = marks;
-        self.awaited = sets::minus(tree::children_of(n, marks, row, me), self.heard);
+        self.awaited = sets::minus(unheard, marks);
         self
     }
 
     // ASK from q: every rank below q is dead.
     pub fn ask(self, n: u8, me: u8, row: [u8; 64], q: u8) -> Acted
         requires { ⌜ FreshRow flat n me self row ⌝ }
+        requires { ⌜ self .awaited ≡ awaiting flat n me (self .marks) (self .heard) ⌝ }
         requires { ⌜ q < n ⌝ }
         ensures { λ r. ⌜ r ≡ takingAsk flat n me q self ⌝ }
     {
         let m = tree::mend_below(n, self.marks, row, q);
         let table = m.table;
-        let seen = self.view(n, me, m.marks, table);
+        let moved = m.moved;
+        let seen = self.view(n, me, m.marks, table, moved.ranks);
         let reply = seen.answer(n, me, table, q);
         let rank = reply.rank;
-        let moved = m.moved;
         rank.settle(n, me, table, reply.send, moved)
     }
 
@@ -330,6 +338,7 @@ impl Rank {
     // Told that q is dead.
     pub fn notice(self, n: u8, me: u8, row: [u8; 64], q: u8) -> Acted
         requires { ⌜ FreshRow flat n me self row ⌝ }
+        requires { ⌜ self .awaited ≡ awaiting flat n me (self .marks) (self .heard) ⌝ }
         requires { ⌜ q < n ⌝ }
         ensures { λ r. ⌜ r ≡ noticing flat n me q self ⌝ }
     {
@@ -344,10 +353,10 @@ impl Rank {
         }
         let m = tree::mend(n, self.marks, row, q);
         let table = m.table;
-        let seen = self.view(n, me, m.marks, table);
-        let said = self.bereave(n, me, row, q, seen, table);
-        let rank = said.rank;
         let moved = m.moved;
+        let seen = self.view(n, me, m.marks, table, moved.ranks);
+        let said = self.bereave(n, me, row, q, seen, table, moved.ranks);
+        let rank = said.rank;
         rank.settle(n, me, table, said.send, moved)
     }
 
@@ -369,10 +378,21 @@ impl Rank {
         (self.phase == GATHERING) & (row[me as usize] == sets::NONE) & (row[q as usize] == me)
     }
 
-    // What the death of q means to this rank: `seen` and `table` are the rank and its row with q marked.
-    fn bereave(self, n: u8, me: u8, row: [u8; 64], q: u8, seen: Rank, table: [u8; 64]) -> Said
+    // What the death of q means to this rank: `seen` and `table` are the rank and its row with q marked, `moved` who moved by it.
+    fn bereave(
+        self,
+        n: u8,
+        me: u8,
+        row: [u8; 64],
+        q: u8,
+        seen: Rank,
+        table: [u8; 64],
+        moved: u64,
+    ) -> Said
         requires { ⌜ FreshRow flat n me self row ⌝ }
         requires { ⌜ FreshRow flat n me seen table ⌝ }
+        requires { ⌜ seen .marks ≡ mended flat n (self .marks) q .marks ⌝ }
+        requires { ⌜ moved ≡ mended flat n (self .marks) q .moved .ranks ⌝ }
         requires { ⌜ q < n ⌝ }
         requires { ⌜ has (self .marks) q ≡ false ⌝ }
         ensures { λ r. ⌜ r ≡ bereaved flat n me q self seen ⌝ }
@@ -381,20 +401,20 @@ impl Rank {
             return seen.orphan(n, me, table);
         }
         if self.lost_child(n, me, row, q) {
-            return self.inherit(n, me, row, q, seen, table);
+            return self.inherit(n, me, q, seen, table, moved);
         }
         seen.still()
     }
 
-    // Asks each child gained from q.
-    fn inherit(self, n: u8, me: u8, row: [u8; 64], q: u8, seen: Rank, table: [u8; 64]) -> Said
-        requires { ⌜ FreshRow flat n me self row ⌝ }
+    // Asks each child gained from q: each that moved here.
+    fn inherit(self, n: u8, me: u8, q: u8, seen: Rank, table: [u8; 64], moved: u64) -> Said
         requires { ⌜ FreshRow flat n me seen table ⌝ }
+        requires { ⌜ seen .marks ≡ mended flat n (self .marks) q .marks ⌝ }
+        requires { ⌜ moved ≡ mended flat n (self .marks) q .moved .ranks ⌝ }
         requires { ⌜ q < n ⌝ }
         ensures { λ r. ⌜ r ≡ inheriting flat n me q self seen ⌝ }
     {
-        let children = tree::children_of(n, seen.marks, table, me);
-        let gained = sets::meet(children, tree::children_of(n, self.marks, row, q));
+        let gained = tree::pointing(table, moved, me);
         Said {
             rank: seen,
             send: Send::ask(gained),

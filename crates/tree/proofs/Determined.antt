@@ -15,6 +15,7 @@ use Rattle.tree.proofs.ancestors.Reads as ancestors
 use Rattle.tree.proofs.parent_of.Reads as parent-of
 use Rattle.tree.proofs.fresh.Reads as fresh
 use Rattle.tree.proofs.children_of.Reads as children-of
+use Rattle.tree.proofs.pointing.Reads as pointing
 use Rattle.tree.proofs.mend.Reads as mend
 use Rattle.tree.proofs.mend_below.Reads as mend-below
 use Rattle.tree.proofs.wrong_size.Reads as wrong-size
@@ -36,6 +37,9 @@ fresh-determined κs a t u x y e f = alike e f
 
 pub children-of-determined : (κs : Lfts 0) (a : _) (t u : ℕ) (x y : _) → children-of.Post κs a t x → children-of.Post κs a u y → t ≡ u
 children-of-determined κs a t u x y e f = alike e f
+
+pub pointing-determined : (κs : Lfts 0) (a : _) (t u : ℕ) (x y : _) → pointing.Post κs a t x → pointing.Post κs a u y → t ≡ u
+pointing-determined κs a t u x y e f = alike e f
 
 pub mend-determined : (κs : Lfts 0) (a : _) (t u : Mended) (x y : _) → mend.Post κs a t x → mend.Post κs a u y → t ≡ u
 mend-determined κs a t u x y e f = alike e f

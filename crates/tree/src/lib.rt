@@ -4,7 +4,8 @@ ghost use mathlib.Core.Path.{_≡_};
 ghost use mathlib.Core.Bool.{cond};
 ghost use Prim.Native.Nat.{_+_, _*_, _<_, _≤_};
 ghost use lib.Dec.{eqb};
-ghost use Rattle.sets.specs.Sets.{below, minus};
+ghost use lib.ListN.{getD};
+ghost use Rattle.sets.specs.Sets.{below, meet, minus, setOf};
 ghost use Rattle.tree.specs.Tree.{children, flat, fresh, half, parent, sized, nobody};
 ghost use Rattle.tree.specs.Calls.{andThen, climbed, marked, mended, mendedBelow, markRefused, climbing, same, told, wrongSize};
 
@@ -144,6 +145,22 @@ pub fn children_of(n: u8, marks: u64, table: [u8; 64], p: u8) -> u64
     sets::minus(pointing, marks)
 }
 
+// Those of a set whose entry in the table is q.
+pub fn pointing(table: [u8; 64], among: u64, q: u8) -> u64
+    ensures { λ r. ⌜ r ≡ meet among (setOf (λ p. eqb (getD table p 0) q) 64) ⌝ }
+{
+    let mut found: u64 = 0;
+    let mut left = among;
+    while left != 0 {
+        let p = sets::smallest(left);
+        if table[p as usize] == q {
+            found = sets::with(found, p);
+        }
+        left = sets::minus(left, sets::only(p));
+    }
+    found
+}
+
 // Marks q and mends the table: only entries that pointed at q are worked out anew.
 pub fn mend(n: u8, marks: u64, mut table: [u8; 64], q: u8) -> Mended
     requires { ⌜ n ≤ 64 ⌝ }
@@ -185,6 +202,10 @@ pub fn mend_below(n: u8, mut marks: u64, mut table: [u8; 64], q: u8) -> Mended
     let mut moved = Moved::nobody();
     let mut k: u8 = 0;
     while k < q {
+        if sets::member(marks, k) {
+            k += 1;
+            continue;
+        }
         let next = mend(n, marks, table, k);
         let more = next.moved;
         marks = next.marks;

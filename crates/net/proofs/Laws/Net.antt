@@ -13,9 +13,8 @@ use lib.ListN.{length, getD, set, take, drop, replicate, length-append, length-d
 use lib.Seq.{getD-append-add, getD-take, getD-drop, take-suc-set, set-append-seam, length-take-le, take-at, append-snoc}
 use borrow.Author.Tests.{lt-ltb, le-ltb}
 use Rattle.sets.specs.Sets.{none, has, only, minus, count, smallest}
-use Rattle.sets.proofs.Laws.Bools.{lt-or-le, clash}
-use Rattle.sets.proofs.Laws.Members.{none-in, has-lt}
-use Rattle.sets.proofs.Laws.Searches.{Smallest, LeastOf, least, smallest-cases, count-first}
+use Rattle.sets.proofs.Laws.Bools.{lt-or-le}
+use Rattle.sets.proofs.Laws.Searches.{Smallest, first-member, count-first}
 use Rattle.tree.proofs.Laws.Rows.{Patched, patched-put, patched-end, row-is}
 use Rattle.rank.specs.declared.Send.{Send}
 use Rattle.rank.specs.declared.Message.{Message}
@@ -157,14 +156,6 @@ pub posting-start : (net : List Message) (c me : ℕ) (s : Send) → length net 
 unfolding toward
 posting-start net c me s l p r w = record { long = l; held = p; rest = refl; room = r; word = w }
 
--- a word that is not empty has a smallest member
-pub first-member : (left q : ℕ) → left < 2 ^ 64 → (left ≡ 0 → ⊥) → q ≡ smallest (has left) 64 none → Smallest (has left) 64 q
-first-member left q w h e = subst (Smallest (has left) 64) (sym e) (go (smallest (has left) 64 none) (smallest-cases (has left) 64 none))
-  where
-    go : (r : ℕ) → LeastOf (has left) 64 none r → Smallest (has left) 64 r
-    go r (least s) = s
-    go r (LeastOf.empty f) = absurd (h (none-in left (λ k t. clash (has left k) t (f k (has-lt left 64 k w t)))))
-
 -- what is still to come begins with the message to that member
 letters-next : (me : ℕ) (s : Send) (left q : ℕ) → Smallest (has left) 64 q → letters me (toward s left) ≡ letter me s q ∷ letters me (toward s (minus left (only q)))
 unfolding toward
@@ -183,7 +174,7 @@ padded-more net c m long held h =
 posting-letter : (net₀ : List Message) (c₀ me : ℕ) (s : Send) (c : ℕ) (net : List Message) (left q o left′ : ℕ) → Posting net₀ c₀ me s c net left → (left ≡ 0 → ⊥) → q ≡ smallest (has left) 64 none
     → o ≡ only q → left′ ≡ minus left o → left′ < 2 ^ 64 → Posting net₀ c₀ me s (c + 1) (set net c (letter me s q)) left′
 posting-letter net₀ c₀ me s c net left q o left′ p h e eo el w =
-    let m : Smallest (has left) 64 q = first-member left q (p .word) h e in
+    let m : Smallest (has left) 64 q = first-member left 64 none q (p .word) h e in
     let sz : count (has left) 64 ≡ suc (count (has (minus left (only q))) 64) = count-first left 64 q m in
     let cl : c < 128 = omega (arith, p .room) in
     let to : left′ ≡ minus left (only q) = el ∙ ap (minus left) eo in
@@ -202,12 +193,7 @@ pub posting-step : (net₀ : List Message) (c₀ me : ℕ) (s : Send) (c : ℕ) 
 posting-step net₀ c₀ me s c net left q o left′ p h e eo el w = subst (λ (m : Message). Posting net₀ c₀ me s (c + 1) (set net c m) left′) (letter-is me s q) (posting-letter net₀ c₀ me s c net left q o left′ p h e eo el w)
 
 pub posting-place : (net₀ : List Message) (c₀ me : ℕ) (s : Send) (c : ℕ) (net : List Message) (left q : ℕ) → Posting net₀ c₀ me s c net left → (left ≡ 0 → ⊥) → q ≡ smallest (has left) 64 none → c < 128
-posting-place net₀ c₀ me s c net left q p h e = omega (arith, p .room, count-first left 64 q (first-member left q (p .word) h e))
-
-pub posting-less : (left q o left′ : ℕ) → left < 2 ^ 64 → (left ≡ 0 → ⊥) → q ≡ smallest (has left) 64 none → o ≡ only q → left′ ≡ minus left o → count (has left′) 64 < count (has left) 64
-posting-less left q o left′ w h e eo el =
-    let sz : count (has left) 64 ≡ suc (count (has (minus left (only q))) 64) = count-first left 64 q (first-member left q w h e) in
-    subst (λ (x : ℕ). count (has x) 64 < count (has left) 64) (sym (el ∙ ap (minus left) eo)) (omega arith)
+posting-place net₀ c₀ me s c net left q p h e = omega (arith, p .room, count-first left 64 q (first-member left 64 none q (p .word) h e))
 
 pub posting-end : (net₀ : List Message) (c₀ me : ℕ) (s : Send) (c : ℕ) (net : List Message) (left : ℕ) → Posting net₀ c₀ me s c net left → left ≡ 0 → _≡_ {A = Joined} (record { net = net; count = c }) (joining (take c₀ net₀) me s)
 unfolding joining toward

@@ -3,8 +3,9 @@ use borrow.Author.Needs.{needs}
 use native.Mathlib.Omega.{arith}
 use Rattle.sets.specs.Sets as Sets
 use Rattle.sets.specs.Sets.{has}
+use Rattle.sets.proofs.Laws.Searches.{first-member, first-less}
 use Rattle.net.specs.Net.{messagesOf, Small}
-use Rattle.net.proofs.Laws.Net.{Posting, first-member, posting-place, posting-less}
+use Rattle.net.proofs.Laws.Net.{Posting, posting-place}
 use Rattle.net.proofs.Laws.Numbers.{posting-begin, posting-on, posting-done, small-set}
 use Rattle.net.proofs.post.Statement.{statement}
 use Rattle.net.proofs.post.Tie as tie
@@ -37,13 +38,13 @@ add-count : tie.Need-add-count Inv-loop μ-loop
 add-count c = search needs
 
 only-requires : tie.Need-only-requires Inv-loop μ-loop
-only-requires c κs = first-member _ _ (c .before .before .before .loop .inv .0 .word) (c .before .before .loop-test .taken) (c .before .smallest .ensures) .within
+only-requires c κs = first-member _ _ _ _ (c .before .before .before .loop .inv .0 .word) (c .before .before .loop-test .taken) (c .before .smallest .ensures) .within
 
 minus-requires : tie.Need-minus-requires Inv-loop μ-loop
 minus-requires c κs = search needs
 
 loop-less : tie.Need-loop-less Inv-loop μ-loop
-loop-less c = search posting-less
+loop-less c = search first-less
 
 loop-again : tie.Need-loop-again Inv-loop μ-loop
 loop-again c =

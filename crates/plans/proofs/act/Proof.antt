@@ -21,7 +21,7 @@ cast-notice : tie.Need-cast-notice
 cast-notice c = omega (arith, c .before .before .before .before .before .before .before .pre .1 (c .before .if3 .taken), c .before .before .before .before .before .before .before .pre .0 .fresh-row .size)
 
 notice-requires : tie.Need-notice-requires
-notice-requires c κs = (search needs, c .before .before .before .before .before .before .before .pre .1 (c .before .if3 .taken))
+notice-requires c κs = (search needs, (search needs, c .before .before .before .before .before .before .before .pre .1 (c .before .if3 .taken)))
 
 returns-3 : tie.Need-returns-3
 returns-3 c = search act-notices

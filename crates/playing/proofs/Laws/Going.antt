@@ -7,8 +7,9 @@ use mathlib.Core.Logic.{inr}
 use Prim.Native.Nat.{ℕ, suc, _+_, _*_, _-_, _≤_, _<_}
 use native.Mathlib.Omega.{arith}
 use lib.ListN.{length, getD, set, take}
+use lib.Seq.{getD-set-same, set-getD}
 use Rattle.sets.specs.Sets.{add}
-use Rattle.tree.specs.Tree.{flat, nobody}
+use Rattle.tree.specs.Tree.{flat, fresh, nobody}
 use Rattle.rank.specs.declared.Rank.{Rank}
 use Rattle.rank.specs.declared.Message.{Message}
 use Rattle.rank.specs.Sends.{size}
@@ -18,6 +19,7 @@ use Rattle.events.specs.declared.Event.{Event}
 use Rattle.state.specs.declared.State.{State}
 use Rattle.state.specs.States.{zeroRank, joined}
 use Rattle.order.specs.Between.{InOrder}
+use Rattle.order.proofs.Laws.Ordering.{in-order-facts}
 use Rattle.plans.specs.declared.Plan.{Plan}
 use Rattle.plans.specs.Plans.{subject, planned}
 use Rattle.plans.specs.Between.{FreshSubject}
@@ -134,6 +136,19 @@ going-accepted total s₀ out₀ n dead c ranks net tables out k ev m me p v sen
     rw (w, es)
     (going-on total s₀ out₀ s out k (record { answer = 0; sent = x + y; moved = p .acted .moved; state = u }) g l
     (step-accepted s ev m me tables p c′ next d x y u em eg refl ep z ec en ed refl refl refl ∙ sym (event-steps-on flat s ev (g .in-order)) ∙ ap (event flat s) ee))
+
+-- A row changes only with the marks: it is the fresh one before and after.
+pub going-row : (total : ℕ) (s₀ : State) (out₀ : List ℕ) (n dead c : ℕ) (ranks : List Rank) (net : List Message) (tables : List (List ℕ)) (out : List ℕ) (k : ℕ) (ev : Event) (m : Message) (me : ℕ) (r : Rank) (row : List ℕ) (d c′ : ℕ) (next : List Message) (v : List ℕ) (k′ : ℕ)
+    → Going total s₀ out₀ (held n dead c ranks net tables) out k → m ≡ getD net (ev .a) zeroMessage → me ≡ subject n ev m → r .marks ≡ getD ranks me zeroRank .marks
+    → Going total s₀ out₀ (held n d c′ (set ranks me r) next (set tables me row)) v k′ → Going total s₀ out₀ (held n d c′ (set ranks me r) next tables) v k′
+going-row total s₀ out₀ n dead c ranks net tables out k ev m me r row d c′ next v k′ g em eg e h =
+    let f = in-order-facts flat (held n dead c ranks net tables) (g .in-order) in
+    let f′ = in-order-facts flat (held n d c′ (set ranks me r) next (set tables me row)) (h .in-order) in
+    let o = step-ready (held n dead c ranks net tables) ev m me tables (g .in-order) em eg refl .fresh-row in
+    let here : getD (set tables me row) me [] ≡ row = getD-set-same tables me row [] (omega (arith, f .shaped .rows-long, o .own, o .size)) in
+    let mine : getD (set ranks me r) me zeroRank ≡ r = getD-set-same ranks me r zeroRank (omega (arith, f .shaped .ranks-long, o .own, o .size)) in
+    let now : row ≡ getD tables me [] = sym here ∙ f′ .member me (o .own) .table ∙ ap (λ (x : Rank). fresh flat n (x .marks)) mine ∙ ap (fresh flat n) e ∙ sym (o .table) in
+    subst (λ (t : List (List ℕ)). Going total s₀ out₀ (held n d c′ (set ranks me r) next t) v k′) (ap (set tables me) now ∙ set-getD tables me []) h
 
 -- All events played.
 pub going-end : (total : ℕ) (s : State) (m : List Message) (t : List (List ℕ)) (out₀ : List ℕ) (u r : State) (out : List ℕ) (k : ℕ) → m ≡ s .group .net → t ≡ s .tables → Going total (parts s m t) out₀ u out k → total ≤ k → r ≡ u

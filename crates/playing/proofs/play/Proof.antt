@@ -5,7 +5,7 @@ use native.Mathlib.Omega.{arith}
 use Rattle.net.specs.Net.{messagesOf, Small}
 use Rattle.plans.proofs.Laws.Accepting.{step-place, step-room}
 use Rattle.group.proofs.Laws.Stepping.{step-held, step-count}
-use Rattle.playing.proofs.Laws.Going.{held, Going, going-begin, going-room, going-subject, going-ready, going-held, going-count, going-long, going-refused, going-accepted, going-end, put-back}
+use Rattle.playing.proofs.Laws.Going.{held, Going, going-begin, going-room, going-subject, going-ready, going-held, going-count, going-long, going-refused, going-accepted, going-row, going-end, put-back}
 use Rattle.playing.proofs.play.Statement.{statement}
 use Rattle.playing.proofs.play.Tie as tie
 
@@ -118,16 +118,16 @@ mul-tables c = search needs
 
 array-set-from-tables : tie.Need-array-set-from-tables Inv-loop μ-loop
 array-set-from-tables c =
-    let plan = c .before .before .before .before .before .before .before .before .before .before .before .before .before in
+    let plan = c .before .before .before .before .before .before .before .before .before .before .before .before .before .before .before .before in
     let subject = plan .before .before .before in
     going-subject _ _ _ _ _ _ _ _ _ _ _ _ _ _ (subject .before .before .before .before .before .before .loop .inv .0) (subject .before .message-at .ensures) (subject .subject .ensures)
 
 loop-less-2 : tie.Need-loop-less-2 Inv-loop μ-loop
-loop-less-2 c = omega (arith, c .before .before .before .before .before .before .before .before .before .before .before .before .before .before .before .before .before .before .before .before .before .loop-test .taken)
+loop-less-2 c = omega (arith, c .before .before .before .before .before .before .before .before .before .before .before .before .before .before .before .before .before .before .before .before .before .before .before .before .loop-test .taken)
 
 loop-again-2 : tie.Need-loop-again-2 Inv-loop μ-loop
 loop-again-2 c =
-    let buried = c .before .before in
+    let buried = c .before .before .before .before .before in
     let put = buried .before .before .before in
     let forth = put .before .before .before .before in
     let left = forth .before .before in
@@ -137,6 +137,23 @@ loop-again-2 c =
     let event = message .before .before in
     let turn = event .before .before in
     (going-accepted _ _ _ _ _ _ _ _ _ _ _ _ _ _ _ _ _ _ _ _ (turn .before .loop .inv .0) (turn .loop-test .taken) (event .event-in .ensures) (message .message-at .ensures) (subject .subject .ensures) (plan .plan-event .ensures) (left .if1 .left) (forth .post .ensures .1 .0) (forth .post .ensures .1 .1 .0) (forth .post .ensures .1 .1 .1) (put .put-three2 .ensures) (buried .buried .ensures), forth .post .ensures .0)
+
+loop-less-3 : tie.Need-loop-less-3 Inv-loop μ-loop
+loop-less-3 c = omega (arith, c .before .before .before .before .before .before .before .before .before .before .before .before .before .before .before .before .before .before .before .before .before .before .before .before .loop-test .taken)
+
+loop-again-3 : tie.Need-loop-again-3 Inv-loop μ-loop
+loop-again-3 c =
+    let buried = c .before .before .before .before .before in
+    let put = buried .before .before .before in
+    let forth = put .before .before .before .before in
+    let left = forth .before .before in
+    let plan = left .before .before in
+    let subject = plan .before .before .before in
+    let message = subject .before in
+    let event = message .before .before in
+    let turn = event .before .before in
+    let taken = going-accepted _ _ _ _ _ _ _ _ _ _ _ _ _ _ _ _ _ _ _ _ (turn .before .loop .inv .0) (turn .loop-test .taken) (event .event-in .ensures) (message .message-at .ensures) (subject .subject .ensures) (plan .plan-event .ensures) (left .if1 .left) (forth .post .ensures .1 .0) (forth .post .ensures .1 .1 .0) (forth .post .ensures .1 .1 .1) (put .put-three2 .ensures) (buried .buried .ensures) in
+    (going-row _ _ _ _ _ _ _ _ _ _ _ _ _ _ _ _ _ _ _ _ _ (turn .before .loop .inv .0) (message .message-at .ensures) (subject .subject .ensures) (c .if2 .left) taken, forth .post .ensures .0)
 
 messages-requires : tie.Need-messages-requires Inv-loop μ-loop
 messages-requires c κs = (going-held _ _ _ _ _ _ _ _ _ _ _ (c .before .loop .inv .0), going-count _ _ _ _ _ _ _ _ _ _ _ (c .before .loop .inv .0))
@@ -188,6 +205,8 @@ play-spec =
     array-set-from-tables
     loop-less-2
     loop-again-2
+    loop-less-3
+    loop-again-3
     messages-requires
     assemble-requires
     same-length

@@ -1,6 +1,6 @@
 -- The rules along their code: each test on the way picks the definition's case. A value is a variable with an equation, so that a
 -- method's proof names the law alone. Assumes nothing.
-use mathlib.Core.Path.{_≡_, sym, ap, _∙_}
+use mathlib.Core.Path.{_≡_, refl, sym, ap, _∙_}
 use mathlib.Core.Bool.{Bool, true, false, _&&_, _||_}
 use mathlib.Core.List.{List}
 use Prim.Native.Nat.{ℕ, _<_}
@@ -8,17 +8,18 @@ use native.Mathlib.Omega.{arith}
 use lib.Dec.{eqb}
 use lib.ListN.{getD}
 use borrow.Author.Tests.{eq-eqb, ne-eqb}
-use Rattle.sets.specs.Sets.{none, has, only, add, union, meet, minus}
+use Rattle.sets.specs.Sets.{none, has, only, add, union, meet, minus, setOf}
 use Rattle.sets.proofs.Laws.Bools.{and-not-l, and-not-r}
 use Rattle.sets.proofs.Laws.Members.{minus-minus, minus-none}
 use Rattle.tree.specs.declared.Moved.{Moved}
+use Rattle.tree.specs.Tree as Tree
 use Rattle.tree.specs.Tree.{parent, children, nobody}
 use Rattle.tree.specs.Calls.{mended, mendedBelow}
 use Rattle.tree.specs.declared.Mended.{Mended}
 use Rattle.tree.proofs.Laws.Rows.{fresh-at}
-use Rattle.tree.proofs.Laws.Mending.{mended-marks, mended-moved, mended-fresh, below-marks, below-moved, below-fresh}
+use Rattle.tree.proofs.Laws.Mending.{mended-marks, mended-moved, mended-fresh, below-marks, below-moved, below-fresh, entries-fresh, children-gained}
 use Rattle.tree.proofs.Laws.Parents.{parent-lt}
-use Rattle.tree.proofs.Laws.Children.{child-test}
+use Rattle.tree.proofs.Laws.Children.{child-test, children-after}
 use Rattle.rank.specs.declared.Rank.{Rank}
 use Rattle.rank.specs.declared.Send.{Send}
 use Rattle.rank.specs.declared.Said.{Said}
@@ -139,10 +140,17 @@ module _ (anc : ℕ → ℕ) where
   unfolding awaiting
   awaited-is n me marks heard c w e f = f ∙ ap (λ (x : ℕ). minus x heard) e
 
-  pub view-returns : (n me : ℕ) (r : Rank) (m c w : ℕ) → c ≡ children anc n m me → w ≡ minus c (r .heard)
+  -- who came to this rank, by its new row
+  came-is : (n me moved y : ℕ) (r : Rank) (row : List ℕ) → FreshRow anc n me r row → y ≡ meet moved (setOf (λ p. eqb (getD row p 0) me) 64) → y ≡ meet moved (setOf (λ p. eqb (parent anc (r .marks) p) me) n)
+  came-is n me moved y r row k e = e ∙ ap (meet moved) (entries-fresh anc n (r .marks) me row (k .size) (omega (arith, k .size, k .own)) (k .table))
+
+  pub view-returns : (n me : ℕ) (r : Rank) (m moved : ℕ) (row : List ℕ) (x y u v w : ℕ) → FreshRow anc n me (viewing anc n me m r) row → r .awaited ≡ awaiting anc n me (r .marks) (r .heard)
+      → ((p : ℕ) → has m p ≡ false → has (r .marks) p ≡ false) → ((p : ℕ) → p < n → has m p ≡ false → has moved p ≡ false → parent anc m p ≡ parent anc (r .marks) p)
+      → x ≡ minus (r .awaited) moved → y ≡ meet moved (setOf (λ p. eqb (getD row p 0) me) 64) → u ≡ union x y → v ≡ minus u (r .heard) → w ≡ minus v m
       → _≡_ {A = Rank} (record { phase = r .phase; marks = m; heard = r .heard; awaited = w; owed = r .owed; word = r .word; result = r .result }) (viewing anc n me m r)
   unfolding viewing awaiting
-  view-returns n me r m c w e f = rw (f, e)
+  view-returns n me r m moved row x y u v w k a g s ex ey eu ev ew =
+      rw (ew, ev, eu, ex, a, came-is n me moved y (viewing anc n me m r) row k ey, children-after anc n (r .marks) m moved me g s (r .heard))
 
   pub row-mended : (n me q : ℕ) (r : Rank) (row : List ℕ) (m : Mended) → FreshRow anc n me r row → m ≡ mended anc n (r .marks) q → FreshRow anc n me (viewing anc n me (m .marks) r) (m .table)
   unfolding viewing
@@ -154,6 +162,10 @@ module _ (anc : ℕ → ℕ) where
 
   pub row-seen : (n me q : ℕ) (r v : Rank) (row : List ℕ) (m : Mended) → FreshRow anc n me r row → m ≡ mended anc n (r .marks) q → v ≡ viewing anc n me (m .marks) r → FreshRow anc n me v (m .table)
   row-seen n me q r v row m k e f = rw f (row-mended n me q r row m k e)
+
+  pub marks-seen : (n me q : ℕ) (r v : Rank) (m : Mended) → m ≡ mended anc n (r .marks) q → v ≡ viewing anc n me (m .marks) r → v .marks ≡ mended anc n (r .marks) q .marks
+  unfolding viewing
+  marks-seen n me q r v m e f = ap (λ (x : Rank). x .marks) f ∙ ap (λ (x : Mended). x .marks) e
 
   pub row-seen-below : (n me q : ℕ) (r v : Rank) (row : List ℕ) (m : Mended) → FreshRow anc n me r row → m ≡ mendedBelow anc n (r .marks) q → v ≡ viewing anc n me (m .marks) r → FreshRow anc n me v (m .table)
   row-seen-below n me q r v row m k e f = rw f (row-below n me q r row m k e)
@@ -231,10 +243,14 @@ module _ (anc : ℕ → ℕ) where
   unfolding bereaved
   bereave-other n me q r v b c s f t g u e = e ∙ rw (sym f ∙ t, sym g ∙ u)
 
-  pub inherit-returns : (n me q : ℕ) (r v : Rank) (c d g : ℕ) (s : Send) → c ≡ children anc n (v .marks) me → d ≡ children anc n (r .marks) q → g ≡ meet c d → s ≡ asks g
-      → _≡_ {A = Said} (record { rank = v; send = s }) (inheriting anc n me q r v)
+  pub inherit-returns : (n me q : ℕ) (r v : Rank) (row : List ℕ) (moved g : ℕ) (s : Send) → FreshRow anc n me v row → v .marks ≡ mended anc n (r .marks) q .marks → moved ≡ mended anc n (r .marks) q .moved .ranks → q < n
+      → g ≡ meet moved (setOf (λ p. eqb (getD row p 0) me) 64) → s ≡ asks g → _≡_ {A = Said} (record { rank = v; send = s }) (inheriting anc n me q r v)
   unfolding inheriting saying childrenOf
-  inherit-returns n me q r v c d g s ec ed eg es = rw (es, eg, ec, ed)
+  inherit-returns n me q r v row moved g s k em ev l eg es =
+      let b : q < none = omega (arith, k .size) in
+      let a : v .marks ≡ add (r .marks) q = em ∙ mended-marks anc n (r .marks) q (mended anc n (r .marks) q) refl in
+      let e : moved ≡ Tree.moved anc n (r .marks) q .ranks = ev ∙ ap (λ (x : Moved). x .ranks) (mended-moved anc n (r .marks) q (mended anc n (r .marks) q) refl) in
+      rw (es, came-is n me moved g v row k eg, a, e, children-gained anc n (r .marks) q me b)
 
   pub row-bereaved : (n me q : ℕ) (r v : Rank) (row : List ℕ) (s : Said) → FreshRow anc n me v row → s ≡ bereaved anc n me q r v → FreshRow anc n me (s .rank) row
   row-bereaved n me q r v row s k e = row-said n me v row s k (ap (λ (x : Said). x .rank .marks) e ∙ bereaved-marks anc n me q r v)

@@ -13,7 +13,7 @@ use lib.Pow.{pow-pos, pow-mono, pow-lt, pow-add, shr-shr, shl-exact}
 use lib.Bits.{bitAnd, bitOr, bitXor, and-shr, or-shr, xor-shr, and-mod, or-mod, xor-mod, or-lt, or-shifted-r, and-mask, xor-add-and}
 use borrow.Author.Tests.{not-true, eq-eqb, ne-eqb, eqb-true, lt-ltb, le-ltb, ltb-true}
 use Rattle.sets.specs.Sets.{has, only, union, meet, minus, add, below, setOf}
-use Rattle.sets.proofs.Laws.Bools.{and-true, same-test, and-i, and-l, and-r, or-l, or-r, or-cases, or-assoc, or-swap, clash, fails, passes, not-i, lt-or-le, eq-or-ne, or-false-r, cond-true, and-not-l, and-assoc}
+use Rattle.sets.proofs.Laws.Bools.{and-true, same-test, and-i, and-l, and-r, or-l, or-r, or-cases, or-assoc, or-swap, clash, fails, passes, not-i, lt-or-le, eq-or-ne, or-false-r, cond-true, and-not-l, and-not-r, and-assoc}
 
 -- ---- digits
 
@@ -407,6 +407,31 @@ minus-minus a b p = ext (minus (minus a b) (only p)) (minus a (add b p)) (λ k. 
 
 pub minus-none : (a : ℕ) → minus a 0 ≡ a
 minus-none a = ext (minus a 0) a (λ k. has-minus a 0 k ∙ ap (λ (x : Bool). has a k && not x) (has-zero k) ∙ and-true (has a k))
+
+-- the members that a set shares with another, one member less
+less-other : (a p k : ℕ) → (k ≡ p → ⊥) → has (minus a (only p)) k ≡ has a k
+less-other a p k d = has-minus a (only p) k ∙ ap (λ (x : Bool). has a k && not x) (has-only p k ∙ ne-eqb k p d) ∙ and-true (has a k)
+
+pub meet-in : (a b p : ℕ) → has a p ≡ true → has b p ≡ true → meet a b ≡ add (meet (minus a (only p)) b) p
+meet-in a b p s t = ext (meet a b) (add (meet (minus a (only p)) b) p) (λ k. ⊎-elim (at k) (off k) (eq-or-ne k p))
+  where
+    at : (k : ℕ) → k ≡ p → has (meet a b) k ≡ has (add (meet (minus a (only p)) b) p) k
+    at k e = ap (has (meet a b)) e ∙ has-meet a b p ∙ and-i (has a p) (has b p) s t ∙ sym (ap (has (add (meet (minus a (only p)) b) p)) e ∙ has-add-same (meet (minus a (only p)) b) p)
+
+    off : (k : ℕ) → (k ≡ p → ⊥) → has (meet a b) k ≡ has (add (meet (minus a (only p)) b) p) k
+    off k d = has-meet a b k ∙ sym (has-add-other (meet (minus a (only p)) b) p k d ∙ has-meet (minus a (only p)) b k ∙ ap (λ (x : Bool). x && has b k) (less-other a p k d))
+
+pub meet-out : (a b p : ℕ) → has b p ≡ false → meet a b ≡ meet (minus a (only p)) b
+meet-out a b p t = ext (meet a b) (meet (minus a (only p)) b) (λ k. ⊎-elim (at k) (off k) (eq-or-ne k p))
+  where
+    at : (k : ℕ) → k ≡ p → has (meet a b) k ≡ has (meet (minus a (only p)) b) k
+    at k e = ap (has (meet a b)) e ∙ has-meet a b p ∙ and-not-r (has a p) (has b p) t ∙ sym (ap (has (meet (minus a (only p)) b)) e ∙ has-meet (minus a (only p)) b p ∙ and-not-r (has (minus a (only p)) p) (has b p) t)
+
+    off : (k : ℕ) → (k ≡ p → ⊥) → has (meet a b) k ≡ has (meet (minus a (only p)) b) k
+    off k d = has-meet a b k ∙ sym (has-meet (minus a (only p)) b k ∙ ap (λ (x : Bool). x && has b k) (less-other a p k d))
+
+pub meet-nobody : (b : ℕ) → meet 0 b ≡ 0
+meet-nobody b = ext (meet 0 b) 0 (λ k. has-meet 0 b k ∙ ap (λ (x : Bool). x && has b k) (has-zero k) ∙ sym (has-zero k))
 
 -- AND of three words: it does not matter which two come first
 pub bits-assoc : (a b c : ℕ) → bitAnd (bitAnd a b) c ≡ bitAnd a (bitAnd b c)

@@ -1,10 +1,10 @@
 -- Searching, counting and listing the ranks below a bound that pass a test: what each finds, by one record or view, so that
 -- no later proof does induction on it. Assumes nothing.
-use mathlib.Core.Path.{_≡_, refl, sym, ap, _∙_}
+use mathlib.Core.Path.{_≡_, refl, sym, ap, subst, _∙_}
 use mathlib.Core.Bool.{Bool, true, false, cond, not, _&&_, _||_}
 use mathlib.Core.List.{List, [], _∷_, _++_, append-nil}
 use mathlib.Core.Logic.{_⊎_, inl, inr, ⊎-elim}
-use Prim.Native.Nat.{ℕ, zero, suc, _+_, _≤_, _<_}
+use Prim.Native.Nat.{ℕ, zero, suc, _+_, _≤_, _<_, _^_}
 use native.Mathlib.Numerals.{add-one}
 use native.Mathlib.Omega.{arith}
 use lib.Dec.{eqb}
@@ -13,7 +13,7 @@ use lib.Seq.{getD-append-add}
 use borrow.Author.Tests.{eq-eqb, ne-eqb}
 use Rattle.sets.specs.Sets.{has, only, add, minus, count, largest, smallest, listed, every, some}
 use Rattle.sets.proofs.Laws.Bools.{clash, fails, lt-or-le, eq-or-ne, and-i, and-l, and-r, and-not-l}
-use Rattle.sets.proofs.Laws.Members.{has-minus, has-only, has-add-other}
+use Rattle.sets.proofs.Laws.Members.{has-minus, has-only, has-add-other, has-lt, none-in}
 
 -- no rank below n passes
 abbrev pub Nobody : (ℕ → Bool) → ℕ → Type 0
@@ -317,6 +317,19 @@ listed-first w n q s =
 
 pub count-first : (w n q : ℕ) → Smallest (has w) n q → count (has w) n ≡ suc (count (has (minus w (only q))) n)
 count-first w n q s = sym (length-listed (has w) n) ∙ ap length (listed-first w n q s) ∙ ap suc (length-listed (has (minus w (only q))) n)
+
+-- a word of n digits that is not empty has a smallest member, and without it one member less
+pub first-member : (w n d q : ℕ) → w < 2 ^ n → (w ≡ 0 → ⊥) → q ≡ smallest (has w) n d → Smallest (has w) n q
+first-member w n d q b h e = subst (Smallest (has w) n) (sym e) (go (smallest (has w) n d) (smallest-cases (has w) n d))
+  where
+    go : (r : ℕ) → LeastOf (has w) n d r → Smallest (has w) n r
+    go r (least s) = s
+    go r (LeastOf.empty f) = absurd (h (none-in w (λ k t. clash (has w k) t (f k (has-lt w n k b t)))))
+
+pub first-less : (w n d q o w′ : ℕ) → w < 2 ^ n → (w ≡ 0 → ⊥) → q ≡ smallest (has w) n d → o ≡ only q → w′ ≡ minus w o → count (has w′) n < count (has w) n
+first-less w n d q o w′ b h e eo ew =
+    let sz : count (has w) n ≡ suc (count (has (minus w (only q))) n) = count-first w n q (first-member w n d q b h e) in
+    subst (λ (x : ℕ). count (has x) n < count (has w) n) (sym (ew ∙ ap (minus w) eo)) (omega arith)
 
 -- ---- every
 

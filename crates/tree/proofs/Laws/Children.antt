@@ -1,15 +1,15 @@
 -- What a child is, is kept and is gained at one mark more, and whom the children of a rank stand above, over any ancestor sets.
 -- Assumes nothing.
-use mathlib.Core.Path.{_≡_, refl, sym, ap, subst, _∙_}
-use mathlib.Core.Bool.{Bool, true, false, not, _&&_}
+use mathlib.Core.Path.{_≡_, refl, sym, ap, ap₂, subst, _∙_}
+use mathlib.Core.Bool.{Bool, true, false, not, _&&_, _||_}
 use mathlib.Core.Logic.{_⊎_, inl, inr, ⊎-elim}
 use Prim.Native.Nat.{ℕ, zero, suc, _≤_, _<_}
 use native.Mathlib.Omega.{arith}
 use lib.Dec.{eqb}
 use borrow.Author.Tests.{not-true, eq-eqb, eqb-true}
-use Rattle.sets.specs.Sets.{none, has, add, union, below}
-use Rattle.sets.proofs.Laws.Bools.{clash, same-test, eq-or-ne, lt-or-le, and-i, and-l, and-r, not-i}
-use Rattle.sets.proofs.Laws.Members.{setOf-has, setOf-within, setOf-passes, setOf-cong, has-add-same, has-add-other, has-add-more, has-add-less}
+use Rattle.sets.specs.Sets.{none, has, add, union, meet, minus, below, setOf}
+use Rattle.sets.proofs.Laws.Bools.{clash, fails, same-test, eq-or-ne, lt-or-le, and-i, and-l, and-r, and-true, and-not-l, and-not-r, not-i}
+use Rattle.sets.proofs.Laws.Members.{ext, has-union, has-meet, has-minus, setOf-has, setOf-within, setOf-passes, setOf-cong, has-add-same, has-add-other, has-add-more, has-add-less}
 use Rattle.tree.specs.Tree.{parent, children}
 use Rattle.tree.specs.Relations.{Above, Ancestry, Chained}
 use Rattle.tree.proofs.Kin.{Under, UnderAChild}
@@ -186,6 +186,42 @@ module _ (anc : ℕ → ℕ) (tree : Ancestry anc) (n marks q p : ℕ) (small : 
 
   pub child-not-gained : (c : ℕ) → Child anc n (add marks q) p c → Child anc n marks p c
   child-not-gained c k = ⊎-elim (λ (h : Child anc n marks p c). h) (λ (e : parent anc marks c ≡ q). absurd (stranger c e (k .linked))) (child-new anc n marks q p c k)
+
+-- ---- more marks, and who moved by them: the children are those who stayed and those who came, of the unmarked
+
+module _ (anc : ℕ → ℕ) (n marks after moved p : ℕ) (grow : (k : ℕ) → Free after k → Free marks k)
+    (stay : (c : ℕ) → c < n → Free after c → has moved c ≡ false → parent anc after c ≡ parent anc marks c) where
+  child-stays : (c : ℕ) → Free after c → has moved c ≡ false → has (children anc n marks p) c ≡ has (children anc n after p) c
+  child-stays c f h =
+      same-test (has (children anc n marks p) c) (has (children anc n after p) c)
+      (λ t. let k : Child anc n marks p c = child-o anc n marks p c t in child-i anc n after p c (record { within = k .within; free = f; linked = stay c (k .within) f h ∙ k .linked }))
+      (λ t. let k : Child anc n after p c = child-o anc n after p c t in child-i anc n marks p c (record { within = k .within; free = grow c f; linked = sym (stay c (k .within) f h) ∙ k .linked }))
+
+  child-comes : (c : ℕ) → Free after c → has (setOf (λ c. eqb (parent anc after c) p) n) c ≡ has (children anc n after p) c
+  child-comes c f =
+      same-test (has (setOf (λ c. eqb (parent anc after c) p) n) c) (has (children anc n after p) c)
+      (λ t. child-i anc n after p c (record { within = setOf-within (λ c. eqb (parent anc after c) p) n c t; free = f; linked = eqb-true (parent anc after c) p (setOf-passes (λ c. eqb (parent anc after c) p) n c t) }))
+      (λ t. let k : Child anc n after p c = child-o anc n after p c t in setOf-has (λ c. eqb (parent anc after c) p) n c (k .within) (eq-eqb (parent anc after c) p (k .linked)))
+
+  -- the same of the children without those of a set
+  pub children-after : (heard : ℕ) → minus (minus (union (minus (minus (children anc n marks p) heard) moved) (meet moved (setOf (λ c. eqb (parent anc after c) p) n))) heard) after ≡ minus (children anc n after p) heard
+  children-after heard = ext _ (minus (children anc n after p) heard) (λ c.
+      has-minus _ after c ∙ ap (λ (x : Bool). x && not (has after c)) (has-minus _ heard c ∙ ap (λ (x : Bool). x && not (has heard c)) (has-union _ _ c
+      ∙ ap₂ (λ (x y : Bool). x || y) (has-minus _ moved c ∙ ap (λ (x : Bool). x && not (has moved c)) (has-minus (children anc n marks p) heard c)) (has-meet moved (setOf (λ c. eqb (parent anc after c) p) n) c)))
+      ∙ pick (has after c) (has moved c) (has heard c) (has (children anc n marks p) c) (has (setOf (λ c. eqb (parent anc after c) p) n) c) (has (children anc n after p) c)
+      (λ f. fails (has (children anc n after p) c) (λ t. clash (has after c) f (child-o anc n after p c t .free)))
+      (child-stays c) (child-comes c)
+      ∙ sym (has-minus (children anc n after p) heard c))
+    where
+      pick : (f m h a s d : Bool) → (f ≡ true → d ≡ false) → (f ≡ false → m ≡ false → a ≡ d) → (f ≡ false → s ≡ d) → ((a && not h && not m) || (m && s)) && not h && not f ≡ d && not h
+      pick true m h a s d x y z = and-not-r (((a && not h && not m) || (m && s)) && not h) false refl ∙ sym (and-not-l d (not h) (x refl))
+      pick false true h a s d x y z = rw (z refl) (and-true (((a && not h && false) || d) && not h) ∙ ap (λ (t : Bool). (t || d) && not h) (and-not-r (a && not h) false refl))
+      pick false false h a s d x y z = rw (y refl refl) (twice d h)
+        where
+          twice : (d h : Bool) → ((d && not h && true) || false) && not h && true ≡ d && not h
+          twice true true = refl
+          twice true false = refl
+          twice false h = refl
 
 -- ---- every rank below q marked (the second half of T4): no child of a larger rank is lost or gained
 

@@ -4,22 +4,22 @@ use mathlib.Core.Path.{_≡_, refl, sym, ap, ap₂, subst, _∙_}
 use mathlib.Core.Bool.{Bool, true, false, cond, not, _&&_, _||_}
 use mathlib.Core.List.{List}
 use mathlib.Core.Logic.{⊎-elim}
-use Prim.Native.Nat.{ℕ, zero, suc, _+_, _*_, _≤_, _<_}
+use Prim.Native.Nat.{ℕ, zero, suc, _+_, _*_, _^_, _≤_, _<_}
 use native.Mathlib.Numerals.{add-one}
 use native.Mathlib.Omega.{arith}
 use lib.Dec.{eqb, ltb}
 use lib.ListN.{getD, set, replicate}
-use borrow.Author.Tests.{eq-eqb, ne-eqb, lt-ltb, le-ltb}
-use Rattle.sets.specs.Sets.{none, has, add, minus, union, below, setOf, count, some}
-use Rattle.sets.proofs.Laws.Bools.{clash, lt-or-le, eq-or-ne, same-test, and-not-r, not-i, not-o}
-use Rattle.sets.proofs.Laws.Members.{add-again, has-zero, has-union, has-setOf, none-in, ext, setOf-passes, setOf-within, setOf-has, setOf-cong, setOf-put, setOf-skip, setOf-zero, minus-setOf, union-below-suc, union-below-zero}
-use Rattle.sets.proofs.Laws.Searches.{count-none, count-le, some-zero, some-suc}
+use borrow.Author.Tests.{eq-eqb, ne-eqb, eqb-true, lt-ltb, le-ltb}
+use Rattle.sets.specs.Sets.{none, has, only, add, minus, union, meet, below, setOf, count, smallest, some}
+use Rattle.sets.proofs.Laws.Bools.{clash, fails, passes, lt-or-le, eq-or-ne, same-test, and-i, and-not-r, or-neither, not-i, not-o}
+use Rattle.sets.proofs.Laws.Members.{add-again, has-add-less, has-zero, has-union, has-meet, has-setOf, none-in, ext, setOf-passes, setOf-within, setOf-has, setOf-cong, setOf-put, setOf-skip, setOf-zero, minus-setOf, union-none, none-union, add-across, meet-in, meet-out, meet-nobody, union-below-suc, union-below-zero}
+use Rattle.sets.proofs.Laws.Searches.{Smallest, first-member, count-none, count-le, some-zero, some-suc}
 use Rattle.tree.specs.Tree.{parent, children, entry, fresh, moves, sized, moved, endedAt, nobody}
 use Rattle.tree.specs.Calls.{mended, mendedBelow, movedBelow, andThen}
 use Rattle.tree.specs.declared.Moved.{Moved}
 use Rattle.tree.specs.declared.Mended.{Mended}
-use Rattle.tree.proofs.Laws.Rows.{Patched, patched-start, patched-from, patched-put, patched-keep, patched-end, entry-below, entry-past, fresh-at, row-replicate}
-use Rattle.tree.proofs.Laws.Parents.{Marked, parent-free, parent-stays, parent-leaves}
+use Rattle.tree.proofs.Laws.Rows.{getD-row, Patched, patched-start, patched-from, patched-put, patched-keep, patched-end, entry-below, entry-past, fresh-at, row-replicate}
+use Rattle.tree.proofs.Laws.Parents.{Marked, Free, parent-free, parent-stays, parent-leaves}
 
 -- One newly known death moves exactly the links that ended at the dead rank: those move, and no other does.
 pub moves-exactly : (anc : ℕ → ℕ) (marks q p : ℕ) → q < none → not (eqb (parent anc (add marks q) p) (parent anc marks p)) ≡ eqb (parent anc marks p) q
@@ -101,6 +101,22 @@ moved-who anc n marks q p h l = has-setOf (moves anc marks q) n p ∙ ⊎-elim i
 
     outside : n ≤ p → ltb p n && moves anc marks q p ≡ ltb p n && not (has (add marks q) p) && eqb (getD (fresh anc n marks) p 0) q
     outside b = rw (le-ltb p n b)
+
+-- Who is unmarked after it and did not move has the parent it had.
+moved-stays : (anc : ℕ → ℕ) (n marks q p : ℕ) → p < n → Free (add marks q) p → has (moved anc n marks q .ranks) p ≡ false → parent anc (add marks q) p ≡ parent anc marks p
+unfolding moved sized moves
+moved-stays anc n marks q p l f h = eqb-true (parent anc (add marks q) p) (parent anc marks p) (passes (eqb (parent anc (add marks q) p) (parent anc marks p)) (λ e. clash (has (setOf (moves anc marks q) n) p) (in-set e) h))
+  where
+    in-set : eqb (parent anc (add marks q) p) (parent anc marks p) ≡ false → has (setOf (moves anc marks q) n) p ≡ true
+    in-set e = setOf-has (moves anc marks q) n p l (and-i (not (has (add marks q) p)) (not (eqb (parent anc (add marks q) p) (parent anc marks p))) (not-i (has (add marks q) p) f) (not-i (eqb (parent anc (add marks q) p) (parent anc marks p)) e))
+
+-- The same of a mended view, for callers; and who is unmarked in it was unmarked.
+pub mended-unmarked : (anc : ℕ → ℕ) (n marks q p : ℕ) (m : Mended) → m ≡ mended anc n marks q → Free (m .marks) p → Free marks p
+mended-unmarked anc n marks q p m e f = has-add-less marks q p (ap (λ (w : ℕ). has w p) (sym (mended-marks anc n marks q m e)) ∙ f)
+
+pub mended-stays : (anc : ℕ → ℕ) (n marks q p : ℕ) (m : Mended) → m ≡ mended anc n marks q → p < n → Free (m .marks) p → has (m .moved .ranks) p ≡ false → parent anc (m .marks) p ≡ parent anc marks p
+unfolding mended
+mended-stays anc n marks q p m e = rw e (moved-stays anc n marks q p)
 
 -- moved is that set's size.
 pub moved-size : (anc : ℕ → ℕ) (n marks q : ℕ) → moved anc n marks q .count ≡ count (has (moved anc n marks q .ranks)) 64
@@ -216,6 +232,22 @@ below-step anc n start k marks t v w m b e f = record {
   moved-is = f ∙ rw (add-one k, e, b .moved-is, b .marks-are);
 }
 
+-- one that is marked already is passed over
+and-nobody : (v : Moved) → andThen v nobody ≡ v
+unfolding andThen
+and-nobody v = let e : v .count + 0 ≡ v .count = omega arith in rw (union-none (v .ranks), e)
+
+pub below-known : (anc : ℕ → ℕ) (n start k marks : ℕ) (t : List ℕ) (v : Moved) (b : Bool) → Below anc n start k marks t v → b ≡ has marks k → b ≡ true → Below anc n start (k + 1) marks t v
+unfolding movedBelow
+below-known anc n start k marks t v b h e f =
+    let m : Marked marks k = sym e ∙ f in
+    let o : Marked (union start (below k)) k = subst (λ (x : ℕ). Marked x k) (h .marks-are) m in
+    record {
+      marks-are = sym (add-again marks k m) ∙ ap (λ (x : ℕ). add x k) (h .marks-are) ∙ union-below-suc start k ∙ ap (λ (x : ℕ). union start (below x)) (sym (add-one k));
+      table-is = h .table-is;
+      moved-is = h .moved-is ∙ sym (and-nobody (movedBelow anc n start k)) ∙ ap (andThen (movedBelow anc n start k)) (sym (moved-again anc n (union start (below k)) k o)) ∙ ap (movedBelow anc n start) (sym (add-one k));
+    }
+
 pub below-end : (anc : ℕ → ℕ) (n start q k marks : ℕ) (t : List ℕ) (v : Moved) → Below anc n start k marks t v → k ≤ q → q ≤ k → _≡_ {A = Mended} (record { marks = marks; table = t; moved = v }) (mendedBelow anc n start q)
 unfolding mendedBelow
 below-end anc n start q k marks t v b l h = let e : q ≡ k = omega arith in rw (b .table-is, b .marks-are, b .moved-is, e)
@@ -231,6 +263,25 @@ below-who anc n marks (suc k) p h l =
     has-union (movedBelow anc n marks k .ranks) (moved anc n (union marks (below k)) k .ranks) p
     ∙ ap₂ (λ (x y : Bool). x || y) (below-who anc n marks k p h (omega arith)) (moved-who anc n (union marks (below k)) k p h (omega arith))
     ∙ sym (some-suc (atMark anc n marks p) k)
+
+-- Who is unmarked after all of them and moved at none has the parent it had.
+moved-below-stays : (anc : ℕ → ℕ) (n marks q p : ℕ) → p < n → Free (union marks (below q)) p → has (movedBelow anc n marks q .ranks) p ≡ false
+    → parent anc (union marks (below q)) p ≡ parent anc marks p
+unfolding movedBelow andThen
+moved-below-stays anc n marks zero p l f h = ap (λ (w : ℕ). parent anc w p) (union-below-zero marks)
+moved-below-stays anc n marks (suc k) p l f h =
+    let before : ℕ = union marks (below k) in
+    let g : Free (add before k) p = ap (λ (w : ℕ). has w p) (union-below-suc marks k) ∙ f in
+    let o = or-neither (has (movedBelow anc n marks k .ranks) p) (has (moved anc n before k .ranks) p) (sym (has-union (movedBelow anc n marks k .ranks) (moved anc n before k .ranks) p) ∙ h) in
+    ap (λ (w : ℕ). parent anc w p) (sym (union-below-suc marks k)) ∙ moved-stays anc n before k p l g (o .1) ∙ moved-below-stays anc n marks k p l (has-add-less before k p g) (o .0)
+
+-- The same of the mended view, for callers.
+pub below-unmarked : (anc : ℕ → ℕ) (n marks q p : ℕ) (m : Mended) → m ≡ mendedBelow anc n marks q → Free (m .marks) p → Free marks p
+below-unmarked anc n marks q p m e f = or-neither (has marks p) (has (below q) p) (sym (has-union marks (below q) p) ∙ ap (λ (w : ℕ). has w p) (sym (below-marks anc n marks q m e)) ∙ f) .0
+
+pub below-stays : (anc : ℕ → ℕ) (n marks q p : ℕ) (m : Mended) → m ≡ mendedBelow anc n marks q → p < n → Free (m .marks) p → has (m .moved .ranks) p ≡ false → parent anc (m .marks) p ≡ parent anc marks p
+unfolding mendedBelow
+below-stays anc n marks q p m e = rw e (moved-below-stays anc n marks q p)
 
 -- the sum is small: each mark moves 64 ranks at most
 moved-below-le : (anc : ℕ → ℕ) (n marks k : ℕ) → movedBelow anc n marks k .count ≤ 64 * k
@@ -256,6 +307,73 @@ children-skip anc n marks p i t w w′ b et h l d ew = pointing-skip anc n marks
 pub children-end : (anc : ℕ → ℕ) (n marks p i w r : ℕ) → Pointing anc n marks p i w → n ≤ i → r ≡ minus w marks → r ≡ children anc n marks p
 unfolding children
 children-end anc n marks p i w r h l e = e ∙ ap (λ (x : ℕ). minus x marks) (pointing-end anc n marks p i w h l) ∙ minus-setOf (λ c. eqb (parent anc marks c) p) n marks
+
+-- ---- the loop of `pointing`: what is found, and what is still to be found among those left, is what was to be found
+
+abbrev entriesAt : List ℕ → ℕ → ℕ
+entriesAt t q = setOf (λ p. eqb (getD t p 0) q) 64
+
+pub record Picking (t : List ℕ) (among q left found : ℕ) : Type 0 where
+  pub word : left < 2 ^ 64
+  pub rest : union found (meet left (entriesAt t q)) ≡ meet among (entriesAt t q)
+
+pub picking-start : (t : List ℕ) (among q : ℕ) → among < 2 ^ 64 → Picking t among q among 0
+picking-start t among q b = record { word = b; rest = none-union (meet among (entriesAt t q)) }
+
+pub picking-rank : (t : List ℕ) (among q left found p : ℕ) → Picking t among q left found → (left ≡ 0 → ⊥) → p ≡ smallest (has left) 64 none → p < 64
+picking-rank t among q left found p k h e = first-member left 64 none p (k .word) h e .within
+
+pub picking-put : (t : List ℕ) (among q left found p f found′ o left′ : ℕ) → Picking t among q left found → (left ≡ 0 → ⊥) → p ≡ smallest (has left) 64 none → getD t p 0 ≡ q → f ≡ add found p → found′ ≡ f
+    → o ≡ only p → left′ ≡ minus left o → left′ < 2 ^ 64 → Picking t among q left′ found′
+picking-put t among q left found p f found′ o left′ k h e g ef e′ eo el b =
+    let m : Smallest (has left) 64 p = first-member left 64 none p (k .word) h e in
+    let s : has (entriesAt t q) p ≡ true = setOf-has (λ p. eqb (getD t p 0) q) 64 p (m .within) (eq-eqb (getD t p 0) q g) in
+    record {
+      word = b;
+      rest = ap₂ (λ (x y : ℕ). union x (meet y (entriesAt t q))) (e′ ∙ ef) (el ∙ ap (minus left) eo) ∙ add-across found (meet (minus left (only p)) (entriesAt t q)) p
+          ∙ ap (union found) (sym (meet-in left (entriesAt t q) p (m .passes) s)) ∙ k .rest;
+    }
+
+pub picking-skip : (t : List ℕ) (among q left found p found′ o left′ : ℕ) → Picking t among q left found → (getD t p 0 ≡ q → ⊥) → found′ ≡ found
+    → o ≡ only p → left′ ≡ minus left o → left′ < 2 ^ 64 → Picking t among q left′ found′
+picking-skip t among q left found p found′ o left′ k g e′ eo el b =
+    let s : has (entriesAt t q) p ≡ false = fails (has (entriesAt t q) p) (λ x. g (eqb-true (getD t p 0) q (setOf-passes (λ p. eqb (getD t p 0) q) 64 p x))) in
+    record {
+      word = b;
+      rest = ap₂ (λ (x y : ℕ). union x (meet y (entriesAt t q))) e′ (el ∙ ap (minus left) eo) ∙ ap (union found) (sym (meet-out left (entriesAt t q) p s)) ∙ k .rest;
+    }
+
+pub picking-end : (t : List ℕ) (among q left found : ℕ) → Picking t among q left found → left ≡ 0 → found ≡ meet among (entriesAt t q)
+picking-end t among q left found k e = sym (ap (λ (x : ℕ). union found (meet x (entriesAt t q))) e ∙ ap (union found) (meet-nobody (entriesAt t q)) ∙ union-none found) ∙ k .rest
+
+-- in a fresh table the entries that are q are the links that end at q
+pub entries-fresh : (anc : ℕ → ℕ) (n marks q : ℕ) (t : List ℕ) → n ≤ 64 → q < none → t ≡ fresh anc n marks → setOf (λ p. eqb (getD t p 0) q) 64 ≡ setOf (λ p. eqb (parent anc marks p) q) n
+unfolding fresh
+entries-fresh anc n marks q t b l e =
+    setOf-cong (λ p. eqb (getD t p 0) q) (λ p. eqb (entry anc n marks p) q) 64 (λ p h. ap (λ (x : ℕ). eqb x q) (ap (λ (x : List ℕ). getD x p 0) e ∙ getD-row (entry anc n marks) 64 p 0 h))
+    ∙ setOf-cut (λ p. eqb (entry anc n marks p) q) n 64 b (λ p h m. ne-eqb (entry anc n marks p) q (λ x. omega (arith, entry-past anc n marks p h)))
+    ∙ setOf-cong (λ p. eqb (entry anc n marks p) q) (λ p. eqb (parent anc marks p) q) n (λ p h. ap (λ (x : ℕ). eqb x q) (entry-below anc n marks p h))
+
+-- a child that is gained at a mark moved, and was a child of the marked one
+pub children-gained : (anc : ℕ → ℕ) (n marks q p : ℕ) → q < none → meet (moved anc n marks q .ranks) (setOf (λ c. eqb (parent anc (add marks q) c) p) n) ≡ meet (children anc n (add marks q) p) (children anc n marks q)
+unfolding moved sized children
+children-gained anc n marks q p l = ext (meet (moved anc n marks q .ranks) (setOf (λ c. eqb (parent anc (add marks q) c) p) n)) (meet (children anc n (add marks q) p) (children anc n marks q)) (λ c.
+    has-meet (setOf (moves anc marks q) n) (setOf (λ c. eqb (parent anc (add marks q) c) p) n) c
+    ∙ ap₂ (λ (x y : Bool). x && y) (has-setOf (moves anc marks q) n c ∙ ap (λ (x : Bool). ltb c n && x) (moves-linked anc marks q c l)) (has-setOf (λ c. eqb (parent anc (add marks q) c) p) n c)
+    ∙ swap (ltb c n) (has (add marks q) c) (has marks c) (eqb (parent anc marks c) q) (eqb (parent anc (add marks q) c) p) (has-add-less marks q c)
+    ∙ sym (has-meet (children anc n (add marks q) p) (children anc n marks q) c
+    ∙ ap₂ (λ (x y : Bool). x && y) (has-setOf (λ c. not (has (add marks q) c) && eqb (parent anc (add marks q) c) p) n c) (has-setOf (λ c. not (has marks c) && eqb (parent anc marks c) q) n c)))
+  where
+    turn : (e g : Bool) → e && g ≡ g && e
+    turn true true = refl
+    turn true false = refl
+    turn false true = refl
+    turn false false = refl
+
+    swap : (b f m e g : Bool) → (f ≡ false → m ≡ false) → b && (not f && e) && (b && g) ≡ b && (not f && g) && (b && (not m && e))
+    swap false f m e g h = refl
+    swap true true m e g h = refl
+    swap true false m e g h = rw (h refl) (turn e g)
 
 -- ---- the loop of `fresh`: the first i entries are the fresh table's, the others 255
 

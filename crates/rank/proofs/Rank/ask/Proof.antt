@@ -1,5 +1,6 @@
 -- `Rank::ask` meets its contract: mark all below q, answer, settle. Assumes nothing.
 use borrow.Author.Needs.{needs}
+use Rattle.tree.proofs.Laws.Mending.{below-unmarked, below-stays}
 use Rattle.rank.proofs.Laws.Acting.{row-below, row-seen-below, row-asked, ask-returns}
 use Rattle.rank.proofs.Rank.ask.Statement.{statement}
 use Rattle.rank.proofs.Rank.ask.Tie as tie
@@ -8,7 +9,7 @@ mend-below-requires : tie.Need-mend-below-requires
 mend-below-requires c κs = search needs
 
 view-requires : tie.Need-view-requires
-view-requires c κs = search row-below
+view-requires c κs = (search row-below, (search needs, (search below-unmarked, search below-stays)))
 
 answer-requires : tie.Need-answer-requires
 answer-requires c κs = (search row-seen-below, search needs)

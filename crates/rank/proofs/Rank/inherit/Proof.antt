@@ -1,17 +1,11 @@
--- `Rank::inherit` meets its contract. Assumes nothing.
+-- `Rank::inherit` meets its contract: who moved and is a child now was a child of q. Assumes nothing.
 use borrow.Author.Needs.{needs}
 use Rattle.rank.proofs.Laws.Acting.{inherit-returns}
 use Rattle.rank.proofs.Rank.inherit.Statement.{statement}
 use Rattle.rank.proofs.Rank.inherit.Tie as tie
 
-children-of-requires : tie.Need-children-of-requires
-children-of-requires c κs = search needs
-
-children-of-requires-2 : tie.Need-children-of-requires-2
-children-of-requires-2 c κs = search needs
-
-meet-requires : tie.Need-meet-requires
-meet-requires c κs = search needs
+pointing-requires : tie.Need-pointing-requires
+pointing-requires c κs = search needs
 
 ask-requires : tie.Need-ask-requires
 ask-requires c κs = search needs
@@ -20,6 +14,4 @@ returns : tie.Need-returns
 returns c = search inherit-returns
 
 pub inherit-spec : {M : Type 1} → statement M
-inherit-spec =
-    tie.close
-    (tie.spec children-of-requires children-of-requires-2 meet-requires ask-requires returns)
+inherit-spec = tie.close (tie.spec pointing-requires ask-requires returns)

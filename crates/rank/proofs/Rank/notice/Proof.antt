@@ -1,7 +1,9 @@
 -- `Rank::notice` meets its contract: mark q, see what the death means, settle. Assumes nothing.
-use mathlib.Core.Path.{sym, _∙_}
+use mathlib.Core.Path.{sym, ap, _∙_}
 use borrow.Author.Needs.{needs}
-use Rattle.rank.proofs.Laws.Acting.{row-mended, row-seen, row-bereaved, notice-again, notice-returns}
+use Rattle.tree.specs.declared.Mended.{Mended}
+use Rattle.tree.proofs.Laws.Mending.{mended-unmarked, mended-stays}
+use Rattle.rank.proofs.Laws.Acting.{row-mended, row-seen, marks-seen, row-bereaved, notice-again, notice-returns}
 use Rattle.rank.proofs.Rank.notice.Statement.{statement}
 use Rattle.rank.proofs.Rank.notice.Tie as tie
 
@@ -24,12 +26,12 @@ mend-requires : tie.Need-mend-requires
 mend-requires c κs = search needs
 
 view-requires : tie.Need-view-requires
-view-requires c κs = search row-mended
+view-requires c κs = (search row-mended, (search needs, (search mended-unmarked, search mended-stays)))
 
 bereave-requires : tie.Need-bereave-requires
 bereave-requires c κs =
-    let unmarked = c .before .before .before in
-    (search needs, (search row-seen, (search needs, sym (unmarked .before .member .ensures) ∙ unmarked .if1 .left)))
+    let unmarked = c .before .before .before .before in
+    (search needs, (search row-seen, (search marks-seen, (ap (λ (x : Mended). x .moved .ranks) (c .before .before .before .mend .ensures), (search needs, sym (unmarked .before .member .ensures) ∙ unmarked .if1 .left)))))
 
 settle-requires : tie.Need-settle-requires
 settle-requires c κs = search (row-bereaved, row-seen)

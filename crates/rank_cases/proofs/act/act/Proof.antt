@@ -32,10 +32,10 @@ down-requires : tie.Need-down-requires
 down-requires c κs = search needs
 
 ask-requires : tie.Need-ask-requires
-ask-requires c κs = search needs
+ask-requires c κs = (search needs, (search awaited-is, search needs))
 
 notice-requires : tie.Need-notice-requires
-notice-requires c κs = search needs
+notice-requires c κs = (search needs, (search awaited-is, search needs))
 
 show-requires : tie.Need-show-requires
 show-requires c κs = search needs
