@@ -76,30 +76,20 @@ fn above(p: u8) -> u8
     p / 2
 }
 
-// The ancestor set of p: the rank above p, and that one's ancestors.
-pub fn ancestors(p: u8) -> u64
-    requires { ⌜ p < 64 ⌝ }
-    ensures { λ r. ⌜ r ≡ flat p ⌝ }
-{
-    let mut found: u64 = 0;
-    let mut at = p;
-    while 0 < at {
-        at = above(at);
-        found = sets::with(found, at);
-    }
-    found
-}
-
-// The parent of p: the nearest unmarked ancestor, else the lowest unmarked rank below p, else NONE.
+// The parent of p: the nearest unmarked ancestor, else the lowest unmarked rank below p, else NONE. Below the lowest no ancestor is unmarked.
 pub fn parent_of(marks: u64, p: u8) -> u8
     requires { ⌜ p < 64 ⌝ }
     ensures { λ r. ⌜ r ≡ parent flat marks p ⌝ }
 {
-    let near = sets::minus(ancestors(p), marks);
-    if near != 0 {
-        return sets::largest(near);
+    let lowest = sets::smallest(sets::minus(sets::below(p), marks));
+    let mut at = above(p);
+    while lowest < at {
+        if !sets::member(marks, at) {
+            return at;
+        }
+        at = above(at);
     }
-    sets::smallest(sets::minus(sets::below(p), marks))
+    lowest
 }
 
 // The whole table of a view, worked out from nothing.
