@@ -155,9 +155,12 @@ impl Rank {
     // Result x, phase decided, DOWN x to every unmarked rank in children or owed.
     fn decide(mut self, n: u8, me: u8, row: [u8; 64], x: u32) -> Said
         requires { ⌜ FreshRow flat n me self row ⌝ }
+        requires { ⌜ self .awaited ≡ awaiting flat n me (self .marks) (self .heard) ⌝ }
         ensures { λ r. ⌜ r ≡ deciding flat n me x self ⌝ }
     {
-        let children = tree::children_of(n, self.marks, row, me);
+        // a child is awaited or was heard; of the heard ones, who is owed is told anyway, and only the others are looked up
+        let heard = tree::pointing(row, sets::minus(self.heard, self.owed), me);
+        let children = sets::union(self.awaited, heard);
         let to = sets::minus(sets::union(children, self.owed), self.marks);
         self.phase = DECIDED;
         self.result = x;
@@ -170,6 +173,7 @@ impl Rank {
     // Decides or reports, where it gathers and nobody is awaited any more.
     fn settled(mut self, n: u8, me: u8, row: [u8; 64]) -> Said
         requires { ⌜ FreshRow flat n me self row ⌝ }
+        requires { ⌜ self .awaited ≡ awaiting flat n me (self .marks) (self .heard) ⌝ }
         ensures { λ r. ⌜ r ≡ settled flat n me self ⌝ }
     {
         if self.phase != GATHERING {
@@ -190,6 +194,7 @@ impl Rank {
     // Settles; `first` is what the rule has sent before.
     pub fn settle(self, n: u8, me: u8, row: [u8; 64], first: Send, moved: Moved) -> Acted
         requires { ⌜ FreshRow flat n me self row ⌝ }
+        requires { ⌜ self .awaited ≡ awaiting flat n me (self .marks) (self .heard) ⌝ }
         ensures { λ r. ⌜ r ≡ settling flat n me (saying self first) moved ⌝ }
     {
         let end = self.settled(n, me, row);
@@ -207,6 +212,7 @@ impl Rank {
     // The rank enters with word w.
     pub fn enter(mut self, n: u8, me: u8, row: [u8; 64], w: u32) -> Acted
         requires { ⌜ FreshRow flat n me self row ⌝ }
+        requires { ⌜ self .awaited ≡ awaiting flat n me (self .marks) (self .heard) ⌝ }
         ensures { λ r. ⌜ r ≡ entering flat n me w self ⌝ }
     {
         self.word = combine(self.word, w);
@@ -235,6 +241,7 @@ impl Rank {
     // DOWN x.
     pub fn down(self, n: u8, me: u8, row: [u8; 64], x: u32) -> Acted
         requires { ⌜ FreshRow flat n me self row ⌝ }
+        requires { ⌜ self .awaited ≡ awaiting flat n me (self .marks) (self .heard) ⌝ }
         ensures { λ r. ⌜ r ≡ takingDown flat n me x self ⌝ }
     {
         if (self.phase == GATHERING) | (self.phase == WAITING) {

@@ -1,6 +1,6 @@
 -- The list of an event along its code: a message leaves, two sends join. Assumes nothing.
 use mathlib.Core.Path.{_≡_, refl, sym, ap, ap₂, _∙_}
-use mathlib.Core.Bool.{Bool, true, false, cond, not}
+use mathlib.Core.Bool.{Bool, true, false, cond}
 use mathlib.Core.List.{List, _++_}
 use Prim.Native.Nat.{ℕ, _+_, _-_, _≤_, _<_}
 use native.Mathlib.Omega.{arith}
@@ -12,7 +12,7 @@ use Rattle.rank.specs.declared.Send.{Send}
 use Rattle.rank.specs.declared.Message.{Message}
 use Rattle.rank.specs.Sends.{letters, size}
 use Rattle.rank.proofs.Laws.Letters.{length-letters}
-use Rattle.net.specs.Net.{padded, without, placed, joining}
+use Rattle.net.specs.Net.{padded, without, joining}
 use Rattle.net.proofs.Laws.Net.{padded-take, length-without}
 use Rattle.net.proofs.Laws.Numbers.{held-long}
 

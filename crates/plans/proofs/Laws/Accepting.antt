@@ -1,26 +1,24 @@
--- What an accepted plan is, and what a refused one does. Assumes nothing.
-use mathlib.Core.Path.{_≡_, refl, sym, ap, subst, _∙_}
-use mathlib.Core.Bool.{Bool, true, false, cond}
+-- What an accepted plan is. Assumes nothing.
+use mathlib.Core.Path.{_≡_, sym, ap, subst, _∙_}
+use mathlib.Core.Bool.{true, false, cond}
 use mathlib.Core.List.{List}
 use mathlib.Core.Logic.{_⊎_, inl, inr}
 use Prim.Native.Nat.{ℕ, _+_, _-_, _≤_, _<_}
 use native.Mathlib.Omega.{arith}
 use lib.Dec.{eqb, ltb}
 use borrow.Author.Tests.{eqb-true, eqb-false, ltb-false}
-use Rattle.sets.specs.Sets.{has, count}
 use Rattle.sets.proofs.Laws.Bools.{passes-or-fails}
-use Rattle.tree.specs.Tree.{flat, nobody}
+use Rattle.tree.specs.Tree.{flat}
 use Rattle.rank.specs.declared.Rank.{Rank}
 use Rattle.rank.specs.declared.Message.{Message}
 use Rattle.rank.specs.declared.Acted.{Acted}
-use Rattle.rank.proofs.Laws.Letters.{silent-size}
 use Rattle.rank.specs.Sends.{size}
 use Rattle.events.specs.declared.Event.{Event}
 use Rattle.events.specs.Events.{namesPlace}
 use Rattle.refusals.specs.Refusing.{refusal}
 use Rattle.refusals.proofs.Laws.Refusing.{Clean, refusal-none, clean-place}
 use Rattle.plans.specs.declared.Plan.{Plan}
-use Rattle.plans.specs.Plans.{idle, acting, refusing, accepting, afterwards, fitting, planned}
+use Rattle.plans.specs.Plans.{acting, refusing, accepting, afterwards, fitting, planned}
 
 -- ---- what an accepted plan is
 
@@ -60,29 +58,6 @@ planned-accepted anc n dead c ev m me r row p e z = first (passes-or-fails (eqb 
     first (inr h) =
         let q : p ≡ refusing (refusal n dead c ev r m) r row = e ∙ rw h in
         absurd (eqb-false (refusal n dead c ev r m) 0 h (sym (ap (λ (y : Plan). y .answer) q) ∙ z))
-
--- A refused plan has its rank do nothing.
-planned-refused : (anc : ℕ → ℕ) (n dead c : ℕ) (ev : Event) (m : Message) (me : ℕ) (r : Rank) (row : List ℕ) (p : Plan) → p ≡ planned anc n dead c ev m me r row → (p .answer ≡ 0 → ⊥) → p .acted ≡ idle r row
-unfolding planned fitting refusing accepting
-planned-refused anc n dead c ev m me r row p e z = first (passes-or-fails (eqb (refusal n dead c ev r m) 0))
-  where
-    t : Bool
-    t = ltb 128 (afterwards c ev (acting anc n dead ev m me r row))
-
-    second : eqb (refusal n dead c ev r m) 0 ≡ true → (t ≡ true) ⊎ (t ≡ false) → p .acted ≡ idle r row
-    second h (inl full) = let q : p ≡ refusing 11 r row = e ∙ rw (h, full) in ap (λ (y : Plan). y .acted) q
-    second h (inr free) =
-        let q : p ≡ accepting ev (acting anc n dead ev m me r row) = e ∙ rw (h, free) in
-        absurd (z (ap (λ (y : Plan). y .answer) q))
-
-    first : (eqb (refusal n dead c ev r m) 0 ≡ true) ⊎ (eqb (refusal n dead c ev r m) 0 ≡ false) → p .acted ≡ idle r row
-    first (inl h) = second h (passes-or-fails t)
-    first (inr h) = let q : p ≡ refusing (refusal n dead c ev r m) r row = e ∙ rw h in ap (λ (y : Plan). y .acted) q
-
--- and sends and moves nothing
-pub refused-quiet : (anc : ℕ → ℕ) (n dead c : ℕ) (ev : Event) (m : Message) (me : ℕ) (r : Rank) (row : List ℕ) (p : Plan) → p ≡ planned anc n dead c ev m me r row → (p .answer ≡ 0 → ⊥)
-    → (count (has (p .acted .first .to)) 64 + count (has (p .acted .second .to)) 64 ≡ 0) × (p .acted .moved ≡ nobody)
-refused-quiet anc n dead c ev m me r row p e z = rw (planned-refused anc n dead c ev m me r row p e z, silent-size) (refl, refl)
 
 pub step-place : (n dead c : ℕ) (ev : Event) (m : Message) (me : ℕ) (r : Rank) (row : List ℕ) (p : Plan) → p ≡ planned flat n dead c ev m me r row → p .answer ≡ 0 → p .leaves ≡ true → ev .a < c
 step-place n dead c ev m me r row p e z t =

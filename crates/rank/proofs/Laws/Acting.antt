@@ -1,7 +1,7 @@
 -- The rules along their code: each test on the way picks the definition's case. A value is a variable with an equation, so that a
 -- method's proof names the law alone. Assumes nothing.
 use mathlib.Core.Path.{_≡_, refl, sym, ap, _∙_}
-use mathlib.Core.Bool.{Bool, true, false, _&&_, _||_}
+use mathlib.Core.Bool.{Bool, true, false, not, _&&_, _||_}
 use mathlib.Core.List.{List}
 use Prim.Native.Nat.{ℕ, _<_}
 use native.Mathlib.Omega.{arith}
@@ -10,14 +10,14 @@ use lib.ListN.{getD}
 use borrow.Author.Tests.{eq-eqb, ne-eqb}
 use Rattle.sets.specs.Sets.{none, has, only, add, union, meet, minus, setOf}
 use Rattle.sets.proofs.Laws.Bools.{and-not-l, and-not-r}
-use Rattle.sets.proofs.Laws.Members.{minus-minus, minus-none}
+use Rattle.sets.proofs.Laws.Members.{ext, has-meet, has-union, has-minus, minus-minus, minus-none}
 use Rattle.tree.specs.declared.Moved.{Moved}
 use Rattle.tree.specs.Tree as Tree
 use Rattle.tree.specs.Tree.{parent, children, nobody}
 use Rattle.tree.specs.Calls.{mended, mendedBelow}
 use Rattle.tree.specs.declared.Mended.{Mended}
 use Rattle.tree.proofs.Laws.Rows.{fresh-at}
-use Rattle.tree.proofs.Laws.Mending.{mended-marks, mended-moved, mended-fresh, below-marks, below-moved, below-fresh, entries-fresh, children-gained}
+use Rattle.tree.proofs.Laws.Mending.{mended-marks, mended-moved, mended-fresh, below-marks, below-moved, below-fresh, children-end, entries-fresh, children-gained}
 use Rattle.tree.proofs.Laws.Parents.{parent-lt}
 use Rattle.tree.proofs.Laws.Children.{child-test, children-after}
 use Rattle.rank.specs.declared.Rank.{Rank}
@@ -29,7 +29,21 @@ use Rattle.rank.specs.Records.{becoming, combining, concluding, owing, p
 use Rattle.rank.specs.Sends.{silent, reports, tells, asks}
 use Rattle.rank.specs.Rules.{inPhase, saying, deciding, settled, done, settling, entering, noting, raised, takingUp, lowered, takingDown, asked, takingAsk, renewing, regathering, orphaned, inheriting, bereaved, noticing}
 use Rattle.rank.specs.Between.{FreshRow}
+use Rattle.rank.proofs.Laws.Cases.{asked-by, orphaned-by, bereaved-by}
 use Rattle.rank.proofs.Laws.Knowing.{settled-marks, asked-marks, bereaved-marks}
+
+-- l are linked, m marked, h heard and o owed: of the linked, who was heard is looked for only where not owed
+there-anyway : (l m h o : ℕ) → minus (union (union (minus (minus l m) h) (meet (minus h o) l)) o) m ≡ minus (union (minus l m) o) m
+there-anyway l m h o = ext (minus (union (union (minus (minus l m) h) (meet (minus h o) l)) o) m) (minus (union (minus l m) o) m) (λ k. simp (has-minus, has-union, has-meet) (pick (has l k) (has m k) (has h k) (has o k)))
+  where
+    pick : (l m h o : Bool) → ((l && not m && not h) || (h && not o && l) || o) && not m ≡ ((l && not m) || o) && not m
+    pick l true h o = and-not-r ((l && false && not h) || (h && not o && l) || o) false refl ∙ sym (and-not-r ((l && false) || o) false refl)
+    pick true false true true = refl
+    pick true false true false = refl
+    pick true false false o = refl
+    pick false false true true = refl
+    pick false false true false = refl
+    pick false false false o = refl
 
 module _ (anc : ℕ → ℕ) where
   -- ---- the row is the table of the rank's own view
@@ -48,6 +62,14 @@ module _ (anc : ℕ → ℕ) where
       let e : getD row me 0 ≡ parent anc (r .marks) me = row-parent n me r row k in
       let l : parent anc (r .marks) me < me = parent-lt anc (r .marks) me (λ x. h (e ∙ x)) in
       omega (arith, k .size, k .own)
+
+  -- those of a set that are linked to this rank, by its row
+  linked-is : (n me w y : ℕ) (r : Rank) (row : List ℕ) → FreshRow anc n me r row → y ≡ meet w (setOf (λ p. eqb (getD row p 0) me) 64) → y ≡ meet w (setOf (λ p. eqb (parent anc (r .marks) p) me) n)
+  linked-is n me w y r row k e = e ∙ ap (meet w) (entries-fresh anc n (r .marks) me row (k .size) (omega (arith, k .size, k .own)) (k .table))
+
+  -- the children are the unmarked ones of these
+  linked-children : (n me marks : ℕ) → minus (setOf (λ p. eqb (parent anc marks p) me) n) marks ≡ children anc n marks me
+  linked-children n me marks = children-end anc n marks me n _ _ (record { past = λ p b l. absurd (omega arith); held = refl }) (omega arith) refl
 
   -- ---- settle
 
@@ -106,9 +128,9 @@ module _ (anc : ℕ → ℕ) where
   up-decided n me r q x o s m a p e f h g = g ∙ rw (eq-eqb (r .phase) decided p, f, e, h)
 
   -- q joins heard: one fewer is awaited
-  fewer-awaited : (n me : ℕ) (r : Rank) (q : ℕ) → r .awaited ≡ awaiting anc n me (r .marks) (r .heard) → minus (r .awaited) (only q) ≡ awaiting anc n me (r .marks) (add (r .heard) q)
+  pub fewer-awaited : (n me : ℕ) (r : Rank) (q h o w : ℕ) → r .awaited ≡ awaiting anc n me (r .marks) (r .heard) → h ≡ add (r .heard) q → o ≡ only q → w ≡ minus (r .awaited) o → w ≡ awaiting anc n me (r .marks) h
   unfolding awaiting
-  fewer-awaited n me r q e = ap (λ (w : ℕ). minus w (only q)) e ∙ minus-minus (children anc n (r .marks) me) (r .heard) q
+  fewer-awaited n me r q h o w e eh eo ew = rw (ew, eo, e, eh) (minus-minus (children anc n (r .marks) me) (r .heard) q)
 
   pub up-undecided : (n me : ℕ) (r : Rank) (q x h v o w y : ℕ) (s : Send) (m : Moved) (a : Acted) → r .awaited ≡ awaiting anc n me (r .marks) (r .heard) → (r .phase ≡ decided → ⊥)
       → h ≡ add (r .heard) q → v ≡ add (r .owed) q → o ≡ only q → w ≡ minus (r .awaited) o → y ≡ combine (r .word) x → s ≡ silent → m ≡ nobody
@@ -116,13 +138,16 @@ module _ (anc : ℕ → ℕ) where
       → a ≡ takingUp anc n me q x r
   unfolding takingUp raised noting inPhase owing combining hearing
   up-undecided n me r q x h v o w y s m a f p eh ev eo ew ey es em g =
-      let e : w ≡ awaiting anc n me (r .marks) (add (r .heard) q) = ew ∙ ap (minus (r .awaited)) eo ∙ fewer-awaited n me r q f in
-      g ∙ rw (ne-eqb (r .phase) decided p, eh, ev, e, ey, es, em)
+      g ∙ rw (ne-eqb (r .phase) decided p, fewer-awaited n me r q h o w f eh eo ew, eh, ev, ey, es, em)
 
-  pub decide-returns : (n me : ℕ) (r : Rank) (row : List ℕ) (x c u t : ℕ) (s : Send) → c ≡ children anc n (r .marks) me → u ≡ union c (r .owed) → t ≡ minus u (r .marks) → s ≡ tells x t
+  pub decide-returns : (n me : ℕ) (r : Rank) (row : List ℕ) (x o y c u t : ℕ) (s : Send) → FreshRow anc n me r row → r .awaited ≡ awaiting anc n me (r .marks) (r .heard)
+      → o ≡ minus (r .heard) (r .owed) → y ≡ meet o (setOf (λ p. eqb (getD row p 0) me) 64) → c ≡ union (r .awaited) y → u ≡ union c (r .owed) → t ≡ minus u (r .marks) → s ≡ tells x t
       → _≡_ {A = Said} (record { rank = record { phase = decided; marks = r .marks; heard = r .heard; awaited = r .awaited; owed = r .owed; word = r .word; result = x }; send = s }) (deciding anc n me x r)
-  unfolding deciding saying concluding childrenOf
-  decide-returns n me r row x c u t s ec eu et es = rw (es, et, eu, ec)
+  unfolding deciding saying concluding childrenOf awaiting
+  decide-returns n me r row x o y c u t s k a eo ey ec eu et es =
+      let linked : ℕ = setOf (λ p. eqb (parent anc (r .marks) p) me) n in
+      let e : t ≡ minus (union (children anc n (r .marks) me) (r .owed)) (r .marks) = rw (et, eu, ec, a, linked-is n me o y r row k ey, eo, ← linked-children n me (r .marks)) (there-anyway linked (r .marks) (r .heard) (r .owed)) in
+      rw (es, e)
 
   pub down-decides : (n me : ℕ) (r : Rank) (row : List ℕ) (x : ℕ) (d : Said) (s : Send) (m : Moved) → FreshRow anc n me r row → eqb (r .phase) gathering || eqb (r .phase) waiting ≡ true → d ≡ deciding anc n me x r → s ≡ silent → m ≡ nobody
       → _≡_ {A = Acted} (record { rank = d .rank; row = row; first = d .send; second = s; moved = m }) (takingDown anc n me x r)
@@ -140,17 +165,13 @@ module _ (anc : ℕ → ℕ) where
   unfolding awaiting
   awaited-is n me marks heard c w e f = f ∙ ap (λ (x : ℕ). minus x heard) e
 
-  -- who came to this rank, by its new row
-  came-is : (n me moved y : ℕ) (r : Rank) (row : List ℕ) → FreshRow anc n me r row → y ≡ meet moved (setOf (λ p. eqb (getD row p 0) me) 64) → y ≡ meet moved (setOf (λ p. eqb (parent anc (r .marks) p) me) n)
-  came-is n me moved y r row k e = e ∙ ap (meet moved) (entries-fresh anc n (r .marks) me row (k .size) (omega (arith, k .size, k .own)) (k .table))
-
   pub view-returns : (n me : ℕ) (r : Rank) (m moved : ℕ) (row : List ℕ) (x y u v w : ℕ) → FreshRow anc n me (viewing anc n me m r) row → r .awaited ≡ awaiting anc n me (r .marks) (r .heard)
       → ((p : ℕ) → has m p ≡ false → has (r .marks) p ≡ false) → ((p : ℕ) → p < n → has m p ≡ false → has moved p ≡ false → parent anc m p ≡ parent anc (r .marks) p)
       → x ≡ minus (r .awaited) moved → y ≡ meet moved (setOf (λ p. eqb (getD row p 0) me) 64) → u ≡ union x y → v ≡ minus u (r .heard) → w ≡ minus v m
       → _≡_ {A = Rank} (record { phase = r .phase; marks = m; heard = r .heard; awaited = w; owed = r .owed; word = r .word; result = r .result }) (viewing anc n me m r)
   unfolding viewing awaiting
   view-returns n me r m moved row x y u v w k a g s ex ey eu ev ew =
-      rw (ew, ev, eu, ex, a, came-is n me moved y (viewing anc n me m r) row k ey, children-after anc n (r .marks) m moved me g s (r .heard))
+      rw (ew, ev, eu, ex, a, linked-is n me moved y (viewing anc n me m r) row k ey, children-after anc n (r .marks) m moved me g s (r .heard))
 
   pub row-mended : (n me q : ℕ) (r : Rank) (row : List ℕ) (m : Mended) → FreshRow anc n me r row → m ≡ mended anc n (r .marks) q → FreshRow anc n me (viewing anc n me (m .marks) r) (m .table)
   unfolding viewing
@@ -172,6 +193,14 @@ module _ (anc : ℕ → ℕ) where
 
   row-said : (n me : ℕ) (r : Rank) (row : List ℕ) (s : Said) → FreshRow anc n me r row → s .rank .marks ≡ r .marks → FreshRow anc n me (s .rank) row
   row-said n me r row s k e = record { size = k .size; own = k .own; table = rw e (k .table) }
+
+  -- the awaited set is the fresh one
+  abbrev Awaits : ℕ → ℕ → Rank → Type 0
+  Awaits n me r = r .awaited ≡ awaiting anc n me (r .marks) (r .heard)
+
+  pub seen-awaits : (n me m : ℕ) (r v : Rank) → v ≡ viewing anc n me m r → Awaits n me v
+  unfolding viewing
+  seen-awaits n me m r v e = rw e
 
   -- ---- ASK
 
@@ -196,6 +225,10 @@ module _ (anc : ℕ → ℕ) where
 
   pub row-asked : (n me q : ℕ) (r : Rank) (row : List ℕ) (s : Said) → FreshRow anc n me r row → s ≡ asked anc n me q r → FreshRow anc n me (s .rank) row
   row-asked n me q r row s k e = row-said n me r row s k (ap (λ (x : Said). x .rank .marks) e ∙ asked-marks anc n me q r)
+
+  pub asked-awaits : (n me q : ℕ) (r : Rank) (s : Said) → Awaits n me r → s ≡ asked anc n me q r → Awaits n me (s .rank)
+  unfolding saying owing
+  asked-awaits n me q r s a e = rw e (asked-by anc n me (λ (x : Said). Awaits n me (x .rank)) q r (λ p. a) (λ p z. a) (λ p z. a))
 
   pub ask-returns : (n me q : ℕ) (r v : Rank) (m : Mended) (s : Said) (a : Acted) → m ≡ mendedBelow anc n (r .marks) q → v ≡ viewing anc n me (m .marks) r → s ≡ asked anc n me q v
       → a ≡ settling anc n me (saying (s .rank) (s .send)) (m .moved) → a ≡ takingAsk anc n me q r
@@ -250,10 +283,16 @@ module _ (anc : ℕ → ℕ) where
       let b : q < none = omega (arith, k .size) in
       let a : v .marks ≡ add (r .marks) q = em ∙ mended-marks anc n (r .marks) q (mended anc n (r .marks) q) refl in
       let e : moved ≡ Tree.moved anc n (r .marks) q .ranks = ev ∙ ap (λ (x : Moved). x .ranks) (mended-moved anc n (r .marks) q (mended anc n (r .marks) q) refl) in
-      rw (es, came-is n me moved g v row k eg, a, e, children-gained anc n (r .marks) q me b)
+      rw (es, linked-is n me moved g v row k eg, a, e, children-gained anc n (r .marks) q me b)
 
   pub row-bereaved : (n me q : ℕ) (r v : Rank) (row : List ℕ) (s : Said) → FreshRow anc n me v row → s ≡ bereaved anc n me q r v → FreshRow anc n me (s .rank) row
   row-bereaved n me q r v row s k e = row-said n me v row s k (ap (λ (x : Said). x .rank .marks) e ∙ bereaved-marks anc n me q r v)
+
+  pub bereaved-awaits : (n me q : ℕ) (r v : Rank) (s : Said) → Awaits n me v → s ≡ bereaved anc n me q r v → Awaits n me (s .rank)
+  unfolding regathering renewing saying becoming hearing inheriting
+  bereaved-awaits n me q r v s a e =
+      let P : Said → Type 0 = λ x. Awaits n me (x .rank) in
+      rw e (bereaved-by anc n me P q r v (λ p z. orphaned-by anc n me P v (λ z. refl) (λ z. a)) (λ p z h. a) (λ g h. a))
 
   pub notice-again : (n me q : ℕ) (r : Rank) (row : List ℕ) (b : Bool) (s s′ : Send) (m : Moved) → FreshRow anc n me r row → b ≡ has (r .marks) q → b ≡ true → s ≡ silent → s′ ≡ silent → m ≡ nobody
       → _≡_ {A = Acted} (record { rank = r; row = row; first = s; second = s′; moved = m }) (noticing anc n me q r)

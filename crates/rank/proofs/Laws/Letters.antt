@@ -6,10 +6,10 @@ use Prim.Native.Nat.{ℕ, _<_}
 use lib.ListN.{length, getD, length-map, List·getD-map}
 use Rattle.sets.specs.Sets.{has, only, minus, count, listed}
 use Rattle.sets.proofs.Laws.Members.{has-zero}
-use Rattle.sets.proofs.Laws.Searches.{Smallest, count-none, length-listed, listed-none, listed-ascends, listed-first}
+use Rattle.sets.proofs.Laws.Searches.{Smallest, length-listed, listed-none, listed-ascends, listed-first}
 use Rattle.rank.specs.declared.Send.{Send}
 use Rattle.rank.specs.declared.Message.{Message}
-use Rattle.rank.specs.Sends.{silent, letter, letters}
+use Rattle.rank.specs.Sends.{letter, letters}
 
 -- a message in fields
 pub letter-is : (me : ℕ) (s : Send) (q : ℕ) → _≡_ {A = Message} (letter me s q) (record { kind = s .kind; from = me; to = q; word = s .word })
@@ -19,11 +19,6 @@ letter-is me s q = refl
 pub length-letters : (me : ℕ) (s : Send) → length (letters me s) ≡ count (has (s .to)) 64
 unfolding letters
 length-letters me s = length-map (listed (has (s .to)) 64) (letter me s) ∙ length-listed (has (s .to)) 64
-
--- silence is no message
-pub silent-size : count (has (silent .to)) 64 ≡ 0
-unfolding silent
-silent-size = count-none (has 0) 64 (λ k l. has-zero k)
 
 -- the message at a place of the list
 pub letter-at : (me : ℕ) (s : Send) (i : ℕ) → getD (letters me s) i (letter me s 0) ≡ letter me s (getD (listed (has (s .to)) 64) i 0)

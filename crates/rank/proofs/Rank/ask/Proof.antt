@@ -1,7 +1,7 @@
 -- `Rank::ask` meets its contract: mark all below q, answer, settle. Assumes nothing.
 use borrow.Author.Needs.{needs}
 use Rattle.tree.proofs.Laws.Mending.{below-unmarked, below-stays}
-use Rattle.rank.proofs.Laws.Acting.{row-below, row-seen-below, row-asked, ask-returns}
+use Rattle.rank.proofs.Laws.Acting.{row-below, row-seen-below, row-asked, seen-awaits, asked-awaits, ask-returns}
 use Rattle.rank.proofs.Rank.ask.Statement.{statement}
 use Rattle.rank.proofs.Rank.ask.Tie as tie
 
@@ -15,7 +15,7 @@ answer-requires : tie.Need-answer-requires
 answer-requires c κs = (search row-seen-below, search needs)
 
 settle-requires : tie.Need-settle-requires
-settle-requires c κs = search (row-asked, row-seen-below)
+settle-requires c κs = (search (row-asked, row-seen-below), search (asked-awaits, seen-awaits))
 
 returns : tie.Need-returns
 returns c = search ask-returns

@@ -3,7 +3,7 @@ use mathlib.Core.Path.{sym, ap, _∙_}
 use borrow.Author.Needs.{needs}
 use Rattle.tree.specs.declared.Mended.{Mended}
 use Rattle.tree.proofs.Laws.Mending.{mended-unmarked, mended-stays}
-use Rattle.rank.proofs.Laws.Acting.{row-mended, row-seen, marks-seen, row-bereaved, notice-again, notice-returns}
+use Rattle.rank.proofs.Laws.Acting.{row-mended, row-seen, marks-seen, row-bereaved, seen-awaits, bereaved-awaits, notice-again, notice-returns}
 use Rattle.rank.proofs.Rank.notice.Statement.{statement}
 use Rattle.rank.proofs.Rank.notice.Tie as tie
 
@@ -34,7 +34,7 @@ bereave-requires c κs =
     (search needs, (search row-seen, (search marks-seen, (ap (λ (x : Mended). x .moved .ranks) (c .before .before .before .mend .ensures), (search needs, sym (unmarked .before .member .ensures) ∙ unmarked .if1 .left)))))
 
 settle-requires : tie.Need-settle-requires
-settle-requires c κs = search (row-bereaved, row-seen)
+settle-requires c κs = (search (row-bereaved, row-seen), bereaved-awaits _ _ _ _ _ _ _ (seen-awaits _ _ _ _ _ _ (c .before .before .view .ensures)) (c .before .bereave .ensures))
 
 returns-2 : tie.Need-returns-2
 returns-2 c = search notice-returns

@@ -1,6 +1,6 @@
 -- `Rank::up` meets its contract: a decided rank answers, any other hears q, owes it, and awaits one fewer. Assumes nothing.
 use borrow.Author.Needs.{needs}
-use Rattle.rank.proofs.Laws.Acting.{up-decided, up-undecided}
+use Rattle.rank.proofs.Laws.Acting.{up-decided, fewer-awaited, up-undecided}
 use Rattle.rank.proofs.Rank.up.Statement.{statement}
 use Rattle.rank.proofs.Rank.up.Tie as tie
 
@@ -41,7 +41,7 @@ nobody-requires-2 : tie.Need-nobody-requires-2
 nobody-requires-2 c κs = search needs
 
 settle-requires-2 : tie.Need-settle-requires-2
-settle-requires-2 c κs = search needs
+settle-requires-2 c κs = (search needs, search fewer-awaited)
 
 returns-2 : tie.Need-returns-2
 returns-2 c =

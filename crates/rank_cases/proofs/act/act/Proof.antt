@@ -23,13 +23,13 @@ minus-requires : tie.Need-minus-requires
 minus-requires c κs = search needs
 
 enter-requires : tie.Need-enter-requires
-enter-requires c κs = search needs
+enter-requires c κs = (search needs, search awaited-is)
 
 up-requires : tie.Need-up-requires
 up-requires c κs = (search needs, (search awaited-is, search needs))
 
 down-requires : tie.Need-down-requires
-down-requires c κs = search needs
+down-requires c κs = (search needs, search awaited-is)
 
 ask-requires : tie.Need-ask-requires
 ask-requires c κs = (search needs, (search awaited-is, search needs))
