@@ -76,18 +76,33 @@ fn above(p: u8) -> u8
     p / 2
 }
 
-// The parent of p: the nearest unmarked ancestor, else the lowest unmarked rank below p, else NONE. Below the lowest no ancestor is unmarked.
+// The ancestor set of p: the rank above p, and that one's ancestors.
+pub fn ancestors(p: u8) -> u64
+    requires { ⌜ p < 64 ⌝ }
+    ensures { λ r. ⌜ r ≡ flat p ⌝ }
+{
+    let mut found: u64 = 0;
+    let mut at = p;
+    while 0 < at {
+        at = above(at);
+        found = sets::with(found, at);
+    }
+    found
+}
+
+// The parent of p: the nearest unmarked ancestor, else the lowest unmarked rank below p, else NONE. Where no ancestor stands above the lowest,
+// that one is the parent.
 pub fn parent_of(marks: u64, p: u8) -> u8
     requires { ⌜ p < 64 ⌝ }
     ensures { λ r. ⌜ r ≡ parent flat marks p ⌝ }
 {
     let lowest = sets::smallest(sets::minus(sets::below(p), marks));
-    let mut at = above(p);
-    while lowest < at {
-        if !sets::member(marks, at) {
-            return at;
-        }
-        at = above(at);
+    if above(p) <= lowest {
+        return lowest;
+    }
+    let near = sets::minus(ancestors(p), marks);
+    if near != 0 {
+        return sets::largest(near);
     }
     lowest
 }
