@@ -11,7 +11,6 @@ use Rattle.tree.specs.declared.Marked.{Marked}
 use Rattle.tree.specs.declared.Climbed.{Climbed}
 use Rattle.tree.proofs.Laws.Climbing.{told-determines}
 use Rattle.tree.proofs.Moved.nobody.Reads as nobody
-use Rattle.tree.proofs.ancestors.Reads as ancestors
 use Rattle.tree.proofs.parent_of.Reads as parent-of
 use Rattle.tree.proofs.fresh.Reads as fresh
 use Rattle.tree.proofs.children_of.Reads as children-of
@@ -25,9 +24,6 @@ use Rattle.tree.proofs.climb.Reads as climb
 
 pub nobody-determined : (κs : Lfts 0) (a : _) (t u : Moved) (x y : _) → nobody.Post κs a t x → nobody.Post κs a u y → t ≡ u
 nobody-determined κs a t u x y e f = alike e f
-
-pub ancestors-determined : (κs : Lfts 0) (a : _) (t u : ℕ) (x y : _) → ancestors.Post κs a t x → ancestors.Post κs a u y → t ≡ u
-ancestors-determined κs a t u x y e f = alike e f
 
 pub parent-of-determined : (κs : Lfts 0) (a : _) (t u : ℕ) (x y : _) → parent-of.Post κs a t x → parent-of.Post κs a u y → t ≡ u
 parent-of-determined κs a t u x y e f = alike e f

@@ -5,7 +5,7 @@ ghost use mathlib.Core.Bool.{cond};
 ghost use Prim.Native.Nat.{_+_, _*_, _<_, _≤_};
 ghost use lib.Dec.{eqb};
 ghost use lib.ListN.{getD};
-ghost use Rattle.sets.specs.Sets.{below, meet, minus, setOf};
+ghost use Rattle.sets.specs.Sets.{below, has, largest, meet, minus, none, setOf, smallest};
 ghost use Rattle.tree.specs.Tree.{children, flat, fresh, half, parent, sized, nobody};
 ghost use Rattle.tree.specs.Calls.{andThen, climbed, marked, mended, mendedBelow, markRefused, climbing, same, told, wrongSize};
 
@@ -76,31 +76,32 @@ fn above(p: u8) -> u8
     p / 2
 }
 
-// The ancestor set of p: the rank above p, and that one's ancestors.
-pub fn ancestors(p: u8) -> u64
+// The ancestors of p that a parent is looked for among, the nearest first: as far as the first that is unmarked, and down to the lowest unmarked
+// rank, below which all are marked.
+fn ancestors(marks: u64, p: u8, lowest: u8) -> u64
     requires { ⌜ p < 64 ⌝ }
-    ensures { λ r. ⌜ r ≡ flat p ⌝ }
+    requires { ⌜ lowest ≡ smallest (has (minus (below p) marks)) 64 none ⌝ }
+    ensures { λ r. ⌜ cond (eqb (minus r marks) 0) lowest (largest (has (minus r marks)) 64 none) ≡ parent flat marks p ⌝ }
 {
     let mut found: u64 = 0;
-    let mut at = p;
-    while 0 < at {
-        at = above(at);
+    let mut at = above(p);
+    while lowest < at {
         found = sets::with(found, at);
+        if !sets::member(marks, at) {
+            return found;
+        }
+        at = above(at);
     }
     found
 }
 
-// The parent of p: the nearest unmarked ancestor, else the lowest unmarked rank below p, else NONE. Where no ancestor stands above the lowest,
-// that one is the parent.
+// The parent of p: the nearest unmarked ancestor, else the lowest unmarked rank below p, else NONE.
 pub fn parent_of(marks: u64, p: u8) -> u8
     requires { ⌜ p < 64 ⌝ }
     ensures { λ r. ⌜ r ≡ parent flat marks p ⌝ }
 {
     let lowest = sets::smallest(sets::minus(sets::below(p), marks));
-    if above(p) <= lowest {
-        return lowest;
-    }
-    let near = sets::minus(ancestors(p), marks);
+    let near = sets::minus(ancestors(marks, p, lowest), marks);
     if near != 0 {
         return sets::largest(near);
     }

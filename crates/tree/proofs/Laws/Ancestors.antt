@@ -8,17 +8,12 @@ use native.Mathlib.Nat.{le-refl}
 use native.Mathlib.Omega.{arith}
 use lib.Dec.{eqb}
 use borrow.Author.Tests.{eqb-true}
-use Rattle.sets.specs.Sets.{has, add, union}
+use Rattle.sets.specs.Sets.{has, add}
 use Rattle.sets.proofs.Laws.Bools.{clash, eq-or-ne, or-cases}
-use Rattle.sets.proofs.Laws.Members.{has-zero, has-add, has-add-same, has-add-more, union-none, none-union, add-across}
+use Rattle.sets.proofs.Laws.Members.{has-zero, has-add, has-add-same, has-add-more}
 use Rattle.tree.specs.Tree.{lineage, ancestors}
 use Rattle.tree.specs.Relations.{Above, Chained}
 use Rattle.tree.proofs.Kin.{Rooted, Smaller, IsTree}
-
--- The loop of `ancestors`, at a rank: what is found so far, with that rank's ancestors, are the ancestors of p.
-pub record Rising (above : ℕ → ℕ) (p at found : ℕ) : Type 0 where
-  pub within : at ≤ p
-  pub left : union found (ancestors above at) ≡ ancestors above p
 
 module _ (above : ℕ → ℕ) (smaller : Smaller above) where
   abbrev anc : ℕ → ℕ
@@ -105,26 +100,3 @@ module _ (above : ℕ → ℕ) (smaller : Smaller above) where
 
   pub ancestors-are-a-tree : IsTree anc
   ancestors-are-a-tree = record { ancestry = record { smaller = ancestors-smaller; through = ancestors-through }; chained = ancestors-chained; rooted = ancestors-rooted }
-
-  -- ---- the loop of `ancestors`
-
-  pub rising-start : (p : ℕ) → Rising above p p 0
-  rising-start p = record { within = le-refl p; left = none-union (anc p) }
-
-  pub rising-less : (at up : ℕ) → 0 < at → up ≡ above at → up < at
-  rising-less at up h u = omega (arith, smaller at h)
-
-  pub rising-within : (p at found up m : ℕ) → Rising above p at found → 0 < at → up ≡ above at → p < m → up < m
-  rising-within p at found up m g h u l = omega (arith, rising-less at up h u, g .within)
-
-  pub rising-step : (p at found up next : ℕ) → Rising above p at found → 0 < at → up ≡ above at → next ≡ add found up → Rising above p up next
-  rising-step p at found up next g h u e =
-      record {
-        within = omega (arith, rising-less at up h u, g .within);
-        left =
-            ap (λ (w : ℕ). union w (anc up)) e ∙ ap (λ (x : ℕ). union (add found x) (anc x)) u ∙ add-across found (anc (above at)) (above at) ∙ ap (union found) (sym (ancestors-suc at h))
-            ∙ g .left;
-      }
-
-  pub rising-end : (p at found : ℕ) → Rising above p at found → at ≡ 0 → found ≡ anc p
-  rising-end p at found g z = sym (union-none found) ∙ ap (union found) (sym (ap anc z ∙ ancestors-zero)) ∙ g .left

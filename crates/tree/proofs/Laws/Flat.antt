@@ -60,10 +60,6 @@ flat-half p a u =
     let l : a < p = flat-ancestry .smaller p a u in
     ⊎-elim (λ (e : a ≡ p / 2). omega arith) (λ (v : Above flat (p / 2) a). omega (arith, flat-ancestry .smaller (p / 2) a v)) (half-cases p a (omega arith) u)
 
-pub flat-near : (p at : ℕ) → at ≡ half p → (k : ℕ) → Above flat p k → k ≤ at
-unfolding half
-flat-near p at e k u = omega (arith, flat-half p k u)
-
 pub flat-first : (marks q first : ℕ) → q < none → first ≡ cond (eqb (minus (below q) marks) 0) (q + 1) (2 * q) → (p : ℕ) → p < first → parent flat marks p ≡ q → ⊥
 flat-first marks q first l e = nobody-before flat flat-ancestry marks q (2 * q) first l (λ p u. flat-half p q u) e
 
