@@ -1,5 +1,5 @@
 -- The list of messages in flight. A record keeps it in 128 places: the messages in order, then zeros.
-use Prim.Native.Nat.{ℕ, suc, _-_, _/_, _%_, _<_}
+use Prim.Native.Nat.{ℕ, suc, _-_, _/_, _%_, _^_, _<_}
 use mathlib.Core.List.{List, _++_, map}
 use lib.ListN.{length, getD, take, drop, replicate}
 use Rattle.rank.specs.declared.Message.{Message}
@@ -43,4 +43,4 @@ messagesOf = map messageOf
 
 -- Such a number has seven bytes.
 pub record Small (numbers : List ℕ) : Type 0 where
-  pub bound : (i : ℕ) → getD numbers i 0 < 72057594037927936
+  pub bound : (i : ℕ) → getD numbers i 0 < 2 ^ 56

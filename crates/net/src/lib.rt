@@ -5,7 +5,7 @@ use rank::Send;
 ghost use mathlib.Core.Path.{_≡_};
 ghost use mathlib.Core.Bool.{cond, true};
 ghost use mathlib.Core.List.{_++_};
-ghost use Prim.Native.Nat.{_+_, _-_, _<_, _≤_};
+ghost use Prim.Native.Nat.{_+_, _-_, _^_, _<_, _≤_};
 ghost use lib.ListN.{getD, length, take};
 ghost use Rattle.rank.specs.Sends.{letters, size};
 ghost use Rattle.net.specs.Net.{joining, messageOf, messagesOf, padded, placed, Small, without, zeroMessage};
@@ -31,7 +31,7 @@ pub fn nothing() -> Message
 // A message as one number, and the message of a number.
 fn number_of(m: Message) -> u64
     ensures { λ r. ⌜ messageOf r ≡ m ⌝ }
-    ensures { λ r. ⌜ r < 72057594037927936 ⌝ }
+    ensures { λ r. ⌜ r < 2 ^ 56 ⌝ }
 {
     m.kind as u64 + 256 * (m.from as u64) + 65536 * (m.to as u64) + 16777216 * (m.word as u64)
 }

@@ -70,8 +70,8 @@ pub room-second : (c place x y r s : ℕ) (leaves : Bool) → (leaves ≡ true �
 room-second c place x y r s true h b e f = omega (arith, h refl)
 room-second c place x y r s false h b e f = omega arith
 
-pub two-sends : (x y left one two : ℕ) → one ≡ left + x → two ≡ one + y → two - left ≡ x + y
-two-sends x y left one two e f = omega arith
+pub two-sends : (x y left two : ℕ) → two ≡ left + x + y → two - left ≡ x + y
+two-sends x y left two e = omega arith
 
 -- what has room to join stays within the places
 pub forward-fits : (net : List Message) (c place me : ℕ) (leaves : Bool) (first second : Send) → net ≡ padded (take c net) → c ≤ 128 → (leaves ≡ true → place < c) → c + size first + size second - cond leaves 1 0 ≤ 128
@@ -80,3 +80,18 @@ forward-fits net c place me leaves first second e b h r =
     let x : length (spared leaves place (take c net) ++ letters me first) ≡ length (spared leaves place (take c net)) + size first = length-append (spared leaves place (take c net)) (letters me first) ∙ ap (λ (k : ℕ). length (spared leaves place (take c net)) + k) (length-letters me first) in
     let y = room-second c place (size first) (size second) (length (spared leaves place (take c net))) (length (spared leaves place (take c net) ++ letters me first)) leaves h r (spared-long net c place leaves e b h) x in
     omega (arith, length-append (spared leaves place (take c net) ++ letters me first) (letters me second), length-letters me second)
+
+-- the list after the first send, and after both, from what the calls ensure
+pub after-one : (net left : List Message) (c place r : ℕ) (leaves : Bool) (me : ℕ) (s : Send) (one : ℕ) (next : List Message) → net ≡ padded (take c net) → c ≤ 128 → (leaves ≡ true → place < c)
+    → (r ≡ c - cond leaves 1 0) × (left ≡ padded (spared leaves place (take c net))) → (one ≡ joining (take r left) me s .count) × (next ≡ joining (take r left) me s .net)
+    → Holding next one (spared leaves place (take c net) ++ letters me s) × (one ≡ r + size s)
+after-one net left c place r leaves me s one next e b h g j =
+    let held = holding-spared net left c place r leaves e b h (g .0) (g .1) in
+    let after = holding-joined left r (spared leaves place (take c net)) me s one next held (j .0) (j .1) in
+    (after, more left r (spared leaves place (take c net)) me s one next held after)
+
+pub after-two : (next : List Message) (one : ℕ) (l : List Message) (r x me : ℕ) (s : Send) (two : ℕ) (last : List Message) → Holding next one l × (one ≡ r + x) → (two ≡ joining (take one next) me s .count) × (last ≡ joining (take one next) me s .net)
+    → Holding last two (l ++ letters me s) × (two ≡ r + x + size s)
+after-two next one l r x me s two last g j =
+    let after = holding-joined next one l me s two last (g .0) (j .0) (j .1) in
+    (after, omega (arith, more next one l me s two last (g .0) after, g .1))

@@ -58,12 +58,12 @@ number-is m r k f t w e = λ i. record { kind = kind-is i; from = from-is i; to 
     word-is = omega arith
 
 -- and it is small
-pub number-small : (k f t w r : ℕ) → k < 256 → f < 256 → t < 256 → w < 4294967296 → r ≡ k + 256 * f + 65536 * t + 16777216 * w → r < 72057594037927936
+pub number-small : (k f t w r : ℕ) → k < 256 → f < 256 → t < 256 → w < 4294967296 → r ≡ k + 256 * f + 65536 * t + 16777216 * w → r < 2 ^ 56
 number-small k f t w r a b c d e = omega arith
 
 -- ---- small numbers
 
-zeros-small : (m i : ℕ) → getD (replicate m 0) i 0 < 72057594037927936
+zeros-small : (m i : ℕ) → getD (replicate m 0) i 0 < 2 ^ 56
 zeros-small zero i = omega arith
 zeros-small (suc m) zero = omega arith
 zeros-small (suc m) (suc i) = zeros-small m i
@@ -71,17 +71,17 @@ zeros-small (suc m) (suc i) = zeros-small m i
 pub small-zeros : (m : ℕ) → Small (replicate m 0)
 small-zeros m = record { bound = zeros-small m }
 
-pub small-set : (x : List ℕ) (i v : ℕ) → Small x → v < 72057594037927936 → Small (set x i v)
-small-set x i v h l = record { bound = λ k. ⊎-elim (here k) (λ (d : k ≡ i → ⊥). subst (λ (y : ℕ). y < 72057594037927936) (sym (getD-set-other x i k v 0 d)) (h .bound k)) (eq-or-ne k i) }
+pub small-set : (x : List ℕ) (i v : ℕ) → Small x → v < 2 ^ 56 → Small (set x i v)
+small-set x i v h l = record { bound = λ k. ⊎-elim (here k) (λ (d : k ≡ i → ⊥). subst (λ (y : ℕ). y < 2 ^ 56) (sym (getD-set-other x i k v 0 d)) (h .bound k)) (eq-or-ne k i) }
   where
-    here : (k : ℕ) → k ≡ i → getD (set x i v) k 0 < 72057594037927936
+    here : (k : ℕ) → k ≡ i → getD (set x i v) k 0 < 2 ^ 56
     here k e = ⊎-elim
-        (λ (b : i < length x). subst (λ (y : ℕ). y < 72057594037927936) (sym (ap (λ (j : ℕ). getD (set x i v) j 0) e ∙ getD-set-same x i v 0 b)) l)
-        (λ (b : length x ≤ i). subst (λ (y : ℕ). y < 72057594037927936) (sym (List·getD-eq-default (set x i v) 0 (let c : length (set x i v) ≤ k = omega (arith, length-set x i v) in c))) (omega arith))
+        (λ (b : i < length x). subst (λ (y : ℕ). y < 2 ^ 56) (sym (ap (λ (j : ℕ). getD (set x i v) j 0) e ∙ getD-set-same x i v 0 b)) l)
+        (λ (b : length x ≤ i). subst (λ (y : ℕ). y < 2 ^ 56) (sym (List·getD-eq-default (set x i v) 0 (let c : length (set x i v) ≤ k = omega (arith, length-set x i v) in c))) (omega arith))
         (lt-or-le i (length x))
 
 -- small numbers with the same messages are the same
-spread : (a : ℕ) → a < 72057594037927936 → a ≡ a % 256 + 256 * (a / 256 % 256) + 65536 * (a / 65536 % 256) + 16777216 * (a / 16777216 % 4294967296)
+spread : (a : ℕ) → a < 2 ^ 56 → a ≡ a % 256 + 256 * (a / 256 % 256) + 65536 * (a / 65536 % 256) + 16777216 * (a / 16777216 % 4294967296)
 spread a l =
     let e : a / 65536 ≡ a / 256 / 256 = omega arith in
     let f : a / 16777216 ≡ a / 65536 / 256 = omega arith in
@@ -91,7 +91,7 @@ spread a l =
     let j : a ≡ a % 256 + 256 * (a / 256) = omega arith in
     omega arith
 
-same-number : (a b : ℕ) → a < 72057594037927936 → b < 72057594037927936 → messageOf a ≡ messageOf b → a ≡ b
+same-number : (a b : ℕ) → a < 2 ^ 56 → b < 2 ^ 56 → messageOf a ≡ messageOf b → a ≡ b
 unfolding messageOf
 same-number a b la lb e = spread a la ∙ ap (λ (m : Message). m .kind + 256 * m .from + 65536 * m .to + 16777216 * m .word) e ∙ sym (spread b lb)
 

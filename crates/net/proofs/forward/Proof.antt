@@ -1,7 +1,7 @@
 -- `forward` meets its contract: the message leaves if one does, then the two sends join. Assumes nothing.
 use borrow.Author.Needs.{needs}
 use native.Mathlib.Omega.{arith}
-use Rattle.net.proofs.Laws.Forwarding.{holding-again, holding-spared, holding-joined, more, room-first, room-second, two-sends}
+use Rattle.net.proofs.Laws.Forwarding.{holding-again, holding-spared, room-first, room-second, two-sends, after-one, after-two}
 use Rattle.net.proofs.forward.Statement.{statement}
 use Rattle.net.proofs.forward.Tie as tie
 
@@ -20,19 +20,16 @@ post-requires-2 c κs =
     let once = c .before in
     let gone = once .before .before in
     let pre = gone .before .before .pre in
-    let left = holding-spared _ _ _ _ _ _ (pre .0) (pre .1 .0) (pre .1 .1 .0) (gone .let-go .ensures .1 .0) (gone .let-go .ensures .1 .1) in
-    let one = holding-joined _ _ _ _ _ _ _ left (once .post .ensures .1 .0) (once .post .ensures .1 .1) in
-    (holding-again _ _ _ one, (room-second _ _ _ _ _ _ _ (pre .1 .1 .0) (pre .1 .1 .1 .0) (gone .let-go .ensures .1 .0) (more _ _ _ _ _ _ _ left one), once .post .ensures .0))
+    let one = after-one _ _ _ _ _ _ _ _ _ _ (pre .0) (pre .1 .0) (pre .1 .1 .0) (gone .let-go .ensures .1) (once .post .ensures .1) in
+    (holding-again _ _ _ (one .0), (room-second _ _ _ _ _ _ _ (pre .1 .1 .0) (pre .1 .1 .1 .0) (gone .let-go .ensures .1 .0) (one .1), once .post .ensures .0))
 
 sub-t14 : tie.Need-sub-t14
 sub-t14 c =
     let once = c .before .before in
     let gone = once .before .before in
     let pre = gone .before .before .pre in
-    let left = holding-spared _ _ _ _ _ _ (pre .0) (pre .1 .0) (pre .1 .1 .0) (gone .let-go .ensures .1 .0) (gone .let-go .ensures .1 .1) in
-    let one = holding-joined _ _ _ _ _ _ _ left (once .post .ensures .1 .0) (once .post .ensures .1 .1) in
-    let two = holding-joined _ _ _ _ _ _ _ one (c .post2 .ensures .1 .0) (c .post2 .ensures .1 .1) in
-    omega (arith, more _ _ _ _ _ _ _ left one, more _ _ _ _ _ _ _ one two)
+    let one = after-one _ _ _ _ _ _ _ _ _ _ (pre .0) (pre .1 .0) (pre .1 .1 .0) (gone .let-go .ensures .1) (once .post .ensures .1) in
+    omega (arith, after-two _ _ _ _ _ _ _ _ _ one (c .post2 .ensures .1) .1)
 
 cast-t15 : tie.Need-cast-t15
 cast-t15 c = search needs
@@ -42,10 +39,9 @@ returns c =
     let once = c .before .before in
     let gone = once .before .before in
     let pre = gone .before .before .pre in
-    let left = holding-spared _ _ _ _ _ _ (pre .0) (pre .1 .0) (pre .1 .1 .0) (gone .let-go .ensures .1 .0) (gone .let-go .ensures .1 .1) in
-    let one = holding-joined _ _ _ _ _ _ _ left (once .post .ensures .1 .0) (once .post .ensures .1 .1) in
-    let two = holding-joined _ _ _ _ _ _ _ one (c .post2 .ensures .1 .0) (c .post2 .ensures .1 .1) in
-    (c .post2 .ensures .0, (two-sends _ _ _ _ _ (more _ _ _ _ _ _ _ left one) (more _ _ _ _ _ _ _ one two), (two .number, two .places)))
+    let one = after-one _ _ _ _ _ _ _ _ _ _ (pre .0) (pre .1 .0) (pre .1 .1 .0) (gone .let-go .ensures .1) (once .post .ensures .1) in
+    let two = after-two _ _ _ _ _ _ _ _ _ one (c .post2 .ensures .1) in
+    (c .post2 .ensures .0, (two-sends _ _ _ _ (two .1), (two .0 .number, two .0 .places)))
 
 pub forward-spec : {M : Type 1} → statement M
 forward-spec = tie.close (tie.spec let-go-requires post-requires post-requires-2 sub-t14 cast-t15 returns)
