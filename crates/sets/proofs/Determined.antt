@@ -14,6 +14,7 @@ use Rattle.sets.proofs.below.Reads as below
 use Rattle.sets.proofs.smallest.Reads as smallest
 use Rattle.sets.proofs.largest.Reads as largest
 use Rattle.sets.proofs.size.Reads as size
+use Rattle.sets.proofs.places.Reads as places
 
 pub member-determined : (κs : Lfts 0) (a : _) (t u : Bool) (x y : _) → member.Post κs a t x → member.Post κs a u y → t ≡ u
 member-determined κs a t u x y e f = alike e f
@@ -44,3 +45,6 @@ largest-determined κs a t u x y e f = alike e f
 
 pub size-determined : (κs : Lfts 0) (a : _) (t u : ℕ) (x y : _) → size.Post κs a t x → size.Post κs a u y → t ≡ u
 size-determined κs a t u x y e f = alike e f
+
+pub places-determined : (κs : Lfts 0) (a : _) (t u : ℕ) (x y : _) → places.Post κs a t x → places.Post κs a u y → t ≡ u
+places-determined κs a t u x y e f = alike e f

@@ -4,3 +4,4 @@ pub mod Members
 pub mod Searches
 pub mod Counts
 pub mod Alike
+pub mod Places

@@ -1,7 +1,10 @@
 // Sets of ranks as 64-bit words, one bit a rank. Smallest, largest and size come from the processor's own bit counts.
 ghost use mathlib.Core.Path.{_≡_};
-ghost use Prim.Native.Nat.{_<_, _≤_};
-ghost use Rattle.sets.specs.Sets.{add, below, count, has, largest, meet, minus, none, only, smallest, union};
+ghost use mathlib.Core.Bool.{Bool, cond};
+ghost use Prim.Native.Nat.{ℕ, _+_, _*_, _%_, _^_, _<_, _≤_};
+ghost use lib.Dec.{eqb};
+ghost use lib.ListN.{getD};
+ghost use Rattle.sets.specs.Sets.{add, below, count, has, largest, meet, minus, none, only, setOf, smallest, union};
 
 // No rank.
 pub const NONE: u8 = 255;
@@ -90,4 +93,57 @@ pub fn size(w: u64) -> u8
         return 0;
     }
     u64::count_ones(w) as u8
+}
+
+// The digit of place p among its eight, where q stands there.
+fn flag(entry: u8, q: u8, p: u8) -> u8
+    ensures { λ r. ⌜ r ≡ cond (eqb entry q) (2 ^ (p % 8)) 0 ⌝ }
+{
+    if entry == q {
+        return 1u8 << (p % 8);
+    }
+    0
+}
+
+fn flags(row: [u8; 64], q: u8) -> [u8; 64]
+    ensures { λ r. ⌜ ((p : ℕ) → p < 64 → getD r p 0 ≡ cond (eqb (getD row p 0) q) (2 ^ (p % 8)) 0) ⌝ }
+{
+    let mut found = [0u8; 64];
+    let mut p: u8 = 0;
+    while p < 64 {
+        found[p as usize] = flag(row[p as usize], q, p);
+        p += 1;
+    }
+    found
+}
+
+// Eight flags as one byte.
+fn octet(flags: [u8; 64], k: u8) -> u8
+    requires { ⌜ k < 8 ⌝ }
+    requires { ⌜ ((j : ℕ) → j < 8 → getD flags (8 * k + j) 0 ≤ 2 ^ j) ⌝ }
+    ensures { λ r. ⌜ ((f : ℕ → Bool) → ((j : ℕ) → j < 8 → getD flags (8 * k + j) 0 ≡ cond (f j) (2 ^ j) 0) → r ≡ setOf f 8) ⌝ }
+{
+    let mut sum: u8 = 0;
+    let mut j: u8 = 0;
+    while j < 8 {
+        let place = 8 * k + j;
+        sum += flags[place as usize];
+        j += 1;
+    }
+    sum
+}
+
+// The places of a row at which q stands. All of them at once, eight to a byte: a processor does this faster than a scan that is cut short.
+pub fn places(row: [u8; 64], q: u8) -> u64
+    ensures { λ r. ⌜ r ≡ setOf (λ p. eqb (getD row p 0) q) 64 ⌝ }
+{
+    let f = flags(row, q);
+    octet(f, 0) as u64
+        + 256 * (octet(f, 1) as u64)
+        + 65536 * (octet(f, 2) as u64)
+        + 16777216 * (octet(f, 3) as u64)
+        + 4294967296 * (octet(f, 4) as u64)
+        + 1099511627776 * (octet(f, 5) as u64)
+        + 281474976710656 * (octet(f, 6) as u64)
+        + 72057594037927936 * (octet(f, 7) as u64)
 }

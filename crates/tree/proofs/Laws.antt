@@ -5,6 +5,7 @@ pub mod Children
 pub mod Ancestors
 pub mod Flat
 pub mod Finding
+pub mod Heirs
 pub mod Mending
 pub mod Climbing
 pub mod Calls

@@ -12,11 +12,11 @@ badSize = 1
 abbrev pub notInOrder : ℕ
 notInOrder = 2
 
--- kind not 1 to 5, or b not 0 where it must be
+-- kind not 1 to 6, or b not 0 where it must be
 abbrev pub badKind : ℕ
 badKind = 3
 
--- a rank number (a for kinds 1, 3, 4; b for kind 4; the rank of a climb or mark) is not below n
+-- a rank number (a for kinds 1, 3, 4, 6; b for kind 4; the rank of a climb or mark) is not below n
 abbrev pub badRank : ℕ
 badRank = 4
 
@@ -24,11 +24,11 @@ badRank = 4
 abbrev pub badPlace : ℕ
 badPlace = 5
 
--- kind 1, 3 or 4 and rank a is dead; a climb from a marked rank
+-- kind 1, 3, 4 or 6 and rank a is dead; a climb from a marked rank
 abbrev pub deadRank : ℕ
 deadRank = 6
 
--- kind 1 and a is not outside
+-- kind 1 or 6 and a is not outside
 abbrev pub entered : ℕ
 entered = 7
 

@@ -2,11 +2,11 @@
 // Entry points for callers are mark and climb; they refuse bad input and require nothing.
 ghost use mathlib.Core.Path.{_≡_};
 ghost use mathlib.Core.Bool.{cond};
-ghost use Prim.Native.Nat.{_+_, _*_, _<_, _≤_};
-ghost use lib.Dec.{eqb};
+ghost use Prim.Native.Nat.{_+_, _<_, _≤_};
+ghost use lib.Dec.{eqb, ltb};
 ghost use lib.ListN.{getD};
 ghost use Rattle.sets.specs.Sets.{below, has, largest, meet, minus, none, setOf, smallest};
-ghost use Rattle.tree.specs.Tree.{children, flat, fresh, half, parent, sized, nobody};
+ghost use Rattle.tree.specs.Tree.{children, flat, fresh, half, nobody, parent, row, sized};
 ghost use Rattle.tree.specs.Calls.{andThen, climbed, marked, mended, mendedBelow, markRefused, climbing, same, told, wrongSize};
 
 // The unmarked ranks that moved, and how many; of several marks the union and the sum.
@@ -122,17 +122,6 @@ pub fn fresh(n: u8, marks: u64) -> [u8; 64]
     table
 }
 
-// The first rank whose parent may be q. An ancestor is at most half of a rank; only the lowest unmarked rank is the parent of others.
-fn first_below(marks: u64, q: u8) -> u8
-    requires { ⌜ q < 64 ⌝ }
-    ensures { λ r. ⌜ r ≡ cond (eqb (minus (below q) marks) 0) (q + 1) (2 * q) ⌝ }
-{
-    if sets::minus(sets::below(q), marks) == 0 {
-        return q + 1;
-    }
-    2 * q
-}
-
 // The children of p, read off the table.
 pub fn children_of(n: u8, marks: u64, table: [u8; 64], p: u8) -> u64
     requires { ⌜ n ≤ 64 ⌝ }
@@ -140,35 +129,56 @@ pub fn children_of(n: u8, marks: u64, table: [u8; 64], p: u8) -> u64
     requires { ⌜ table ≡ fresh flat n marks ⌝ }
     ensures { λ r. ⌜ r ≡ children flat n marks p ⌝ }
 {
-    let mut pointing: u64 = 0;
-    let mut c: u8 = first_below(marks, p);
-    while c < n {
-        if table[c as usize] == p {
-            pointing = sets::with(pointing, c);
-        }
-        c += 1;
-    }
-    sets::minus(pointing, marks)
+    sets::minus(sets::places(table, p), marks)
 }
 
-// Those of a set whose entry in the table is q.
+// Those of a set whose entry in the table is q; most sets are empty.
 pub fn pointing(table: [u8; 64], among: u64, q: u8) -> u64
     ensures { λ r. ⌜ r ≡ meet among (setOf (λ p. eqb (getD table p 0) q) 64) ⌝ }
 {
-    let mut found: u64 = 0;
-    let mut left = among;
-    while left != 0 {
-        let p = sets::smallest(left);
-        if table[p as usize] == q {
-            found = sets::with(found, p);
-        }
-        left = sets::minus(left, sets::only(p));
+    if among == 0 {
+        return 0;
     }
-    found
+    sets::meet(among, sets::places(table, q))
 }
 
-// Marks q and mends the table: only entries that pointed at q are worked out anew.
-pub fn mend(n: u8, marks: u64, mut table: [u8; 64], q: u8) -> Mended
+// Who takes over from a rank that is marked: `up`, its own parent, or, where it had none, the lowest unmarked rank.
+fn heir(after: u64, up: u8) -> u8
+    ensures { λ r. ⌜ r ≡ cond (eqb up none) (smallest (has (minus (below 64) after)) 64 none) up ⌝ }
+{
+    if up == sets::NONE {
+        return sets::smallest(sets::minus(sets::below(64), after));
+    }
+    up
+}
+
+// The entry of p once q is marked: where it was q it is the heir, and NONE for the heir itself and any below it.
+fn handed(entry: u8, q: u8, heir: u8, p: u8) -> u8
+    ensures { λ r. ⌜ r ≡ cond (eqb entry q) (cond (ltb heir p) heir none) entry ⌝ }
+{
+    if entry != q {
+        return entry;
+    }
+    if heir < p {
+        return heir;
+    }
+    sets::NONE
+}
+
+// The table in which all that reported to q report to its heir.
+fn hand_over(mut table: [u8; 64], q: u8, heir: u8) -> [u8; 64]
+    ensures { λ r. ⌜ r ≡ row (λ p. cond (eqb (getD table p 0) q) (cond (ltb heir p) heir none) (getD table p 0)) 64 ⌝ }
+{
+    let mut p: u8 = 0;
+    while p < 64 {
+        table[p as usize] = handed(table[p as usize], q, heir, p);
+        p += 1;
+    }
+    table
+}
+
+// Marks q and mends the table: only entries that pointed at q change.
+pub fn mend(n: u8, marks: u64, table: [u8; 64], q: u8) -> Mended
     requires { ⌜ n ≤ 64 ⌝ }
     requires { ⌜ q < n ⌝ }
     requires { ⌜ table ≡ fresh flat n marks ⌝ }
@@ -182,18 +192,17 @@ pub fn mend(n: u8, marks: u64, mut table: [u8; 64], q: u8) -> Mended
         };
     }
     let after = sets::with(marks, q);
-    let mut changed: u64 = 0;
-    let mut p: u8 = first_below(marks, q);
-    while p < n {
-        if table[p as usize] == q {
-            table[p as usize] = parent_of(after, p);
-            changed = sets::with(changed, p);
-        }
-        p += 1;
+    let changed = sets::places(table, q);
+    if changed == 0 {
+        return Mended {
+            marks: after,
+            table,
+            moved: Moved::nobody(),
+        };
     }
     Mended {
         marks: after,
-        table,
+        table: hand_over(table, q, heir(after, table[q as usize])),
         moved: Moved::sized(sets::minus(changed, after)),
     }
 }

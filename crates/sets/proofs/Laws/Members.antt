@@ -10,10 +10,10 @@ use native.Mathlib.Omega.{arith}
 use lib.Dec.{eqb, ltb, lit<}
 use lib.Arith.{bin-ind}
 use lib.Pow.{pow-pos, pow-mono, pow-lt, pow-add, shr-shr, shl-exact}
-use lib.Bits.{bitAnd, bitOr, bitXor, and-shr, or-shr, xor-shr, and-mod, or-mod, xor-mod, or-lt, or-shifted-r, and-mask, xor-add-and}
+use lib.Bits.{bitAnd, bitOr, bitXor, and-comm, and-self, or-comm, or-self, and-shr, or-shr, xor-shr, and-mod, or-mod, xor-mod, or-lt, or-shifted-r, and-mask, xor-add-and}
 use borrow.Author.Tests.{not-true, eq-eqb, ne-eqb, eqb-true, lt-ltb, le-ltb, ltb-true}
 use Rattle.sets.specs.Sets.{has, only, union, meet, minus, add, below, setOf}
-use Rattle.sets.proofs.Laws.Bools.{and-true, same-test, and-i, and-l, and-r, or-l, or-r, or-cases, or-assoc, or-swap, clash, fails, passes, not-i, lt-or-le, eq-or-ne, or-false-r, cond-true, and-not-l, and-not-r, and-assoc}
+use Rattle.sets.proofs.Laws.Bools.{and-true, same-test, and-i, and-l, and-r, or-l, or-r, or-cases, or-assoc, or-swap, clash, fails, passes, not-i, lt-or-le, eq-or-ne, or-false-r, cond-true, and-not-l, and-assoc}
 
 -- ---- digits
 
@@ -311,18 +311,6 @@ add-swap w p q = ext (add (add w p) q) (add (add w q) p) (λ k. same k)
 pub union-none : (w : ℕ) → union w 0 ≡ w
 union-none w = ext (union w 0) w (λ k. has-union w 0 k ∙ ap (λ (b : Bool). has w k || b) (has-zero k) ∙ or-false-r (has w k))
 
-pub none-union : (w : ℕ) → union 0 w ≡ w
-none-union w = ext (union 0 w) w (λ k. has-union 0 w k ∙ ap (λ (b : Bool). b || has w k) (has-zero k))
-
--- of two sets that are united it is the same which of them a rank joins
-pub add-across : (a b p : ℕ) → union (add a p) b ≡ union a (add b p)
-add-across a b p = ext (union (add a p) b) (union a (add b p)) (λ k. same k)
-  where
-    same : (k : ℕ) → has (union (add a p) b) k ≡ has (union a (add b p)) k
-    same k =
-        has-union (add a p) b k ∙ ap (λ (x : Bool). x || has b k) (has-add a p k) ∙ or-swap (has a k) (eqb k p) (has b k) ∙ or-assoc (has a k) (has b k) (eqb k p)
-        ∙ sym (has-union a (add b p) k ∙ ap (λ (x : Bool). has a k || x) (has-add b p k))
-
 -- a set of ranks below n, cut to those, is itself
 pub meet-below : (w n : ℕ) → ((k : ℕ) → has w k ≡ true → k < n) → meet w (below n) ≡ w
 meet-below w n h = ext (meet w (below n)) w (λ k. has-meet w (below n) k ∙ same-test (has w k && has (below n) k) (has w k) (and-l (has w k) (has (below n) k)) (λ t. and-i (has w k) (has (below n) k) t (has-below-lt n k (h k t))))
@@ -408,34 +396,37 @@ minus-minus a b p = ext (minus (minus a b) (only p)) (minus a (add b p)) (λ k. 
 pub minus-none : (a : ℕ) → minus a 0 ≡ a
 minus-none a = ext (minus a 0) a (λ k. has-minus a 0 k ∙ ap (λ (x : Bool). has a k && not x) (has-zero k) ∙ and-true (has a k))
 
--- the members that a set shares with another, one member less
-less-other : (a p k : ℕ) → (k ≡ p → ⊥) → has (minus a (only p)) k ≡ has a k
-less-other a p k d = has-minus a (only p) k ∙ ap (λ (x : Bool). has a k && not x) (has-only p k ∙ ne-eqb k p d) ∙ and-true (has a k)
-
-pub meet-in : (a b p : ℕ) → has a p ≡ true → has b p ≡ true → meet a b ≡ add (meet (minus a (only p)) b) p
-meet-in a b p s t = ext (meet a b) (add (meet (minus a (only p)) b) p) (λ k. ⊎-elim (at k) (off k) (eq-or-ne k p))
-  where
-    at : (k : ℕ) → k ≡ p → has (meet a b) k ≡ has (add (meet (minus a (only p)) b) p) k
-    at k e = ap (has (meet a b)) e ∙ has-meet a b p ∙ and-i (has a p) (has b p) s t ∙ sym (ap (has (add (meet (minus a (only p)) b) p)) e ∙ has-add-same (meet (minus a (only p)) b) p)
-
-    off : (k : ℕ) → (k ≡ p → ⊥) → has (meet a b) k ≡ has (add (meet (minus a (only p)) b) p) k
-    off k d = has-meet a b k ∙ sym (has-add-other (meet (minus a (only p)) b) p k d ∙ has-meet (minus a (only p)) b k ∙ ap (λ (x : Bool). x && has b k) (less-other a p k d))
-
-pub meet-out : (a b p : ℕ) → has b p ≡ false → meet a b ≡ meet (minus a (only p)) b
-meet-out a b p t = ext (meet a b) (meet (minus a (only p)) b) (λ k. ⊎-elim (at k) (off k) (eq-or-ne k p))
-  where
-    at : (k : ℕ) → k ≡ p → has (meet a b) k ≡ has (meet (minus a (only p)) b) k
-    at k e = ap (has (meet a b)) e ∙ has-meet a b p ∙ and-not-r (has a p) (has b p) t ∙ sym (ap (has (meet (minus a (only p)) b)) e ∙ has-meet (minus a (only p)) b p ∙ and-not-r (has (minus a (only p)) p) (has b p) t)
-
-    off : (k : ℕ) → (k ≡ p → ⊥) → has (meet a b) k ≡ has (meet (minus a (only p)) b) k
-    off k d = has-meet a b k ∙ sym (has-meet (minus a (only p)) b k ∙ ap (λ (x : Bool). x && has b k) (less-other a p k d))
-
 pub meet-nobody : (b : ℕ) → meet 0 b ≡ 0
 meet-nobody b = ext (meet 0 b) 0 (λ k. has-meet 0 b k ∙ ap (λ (x : Bool). x && has b k) (has-zero k) ∙ sym (has-zero k))
 
--- AND of three words: it does not matter which two come first
-pub bits-assoc : (a b c : ℕ) → bitAnd (bitAnd a b) c ≡ bitAnd a (bitAnd b c)
+-- OR and AND of two sets: their order does not matter, nor a set that comes twice, nor which two of three come first
+pub meet-comm : (a b : ℕ) → meet a b ≡ meet b a
 unfolding meet
-bits-assoc a b c = ext (meet (meet a b) c) (meet a (meet b c)) (λ k.
+meet-comm a b = and-comm a b
+
+pub meet-self : (a : ℕ) → meet a a ≡ a
+unfolding meet
+meet-self a = and-self a
+
+pub union-comm : (a b : ℕ) → union a b ≡ union b a
+unfolding union
+union-comm a b = or-comm a b
+
+pub union-self : (a : ℕ) → union a a ≡ a
+unfolding union
+union-self a = or-self a
+
+pub union-assoc : (a b c : ℕ) → union (union a b) c ≡ union a (union b c)
+union-assoc a b c = ext (union (union a b) c) (union a (union b c)) (λ k.
+    has-union (union a b) c k ∙ ap (λ (t : Bool). t || has c k) (has-union a b k)
+    ∙ or-assoc (has a k) (has b k) (has c k) ∙ sym (has-union a (union b c) k ∙ ap (λ (t : Bool). has a k || t) (has-union b c k)))
+
+pub meet-assoc : (a b c : ℕ) → meet (meet a b) c ≡ meet a (meet b c)
+meet-assoc a b c = ext (meet (meet a b) c) (meet a (meet b c)) (λ k.
     has-meet (meet a b) c k ∙ ap (λ (t : Bool). t && has c k) (has-meet a b k)
     ∙ and-assoc (has a k) (has b k) (has c k) ∙ sym (has-meet a (meet b c) k ∙ ap (λ (t : Bool). has a k && t) (has-meet b c k)))
+
+-- the same of the AND of words
+pub bits-assoc : (a b c : ℕ) → bitAnd (bitAnd a b) c ≡ bitAnd a (bitAnd b c)
+unfolding meet
+bits-assoc a b c = meet-assoc a b c

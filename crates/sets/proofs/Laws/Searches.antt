@@ -12,7 +12,7 @@ use lib.ListN.{length, getD, length-append, List·getD-append}
 use lib.Seq.{getD-append-add}
 use borrow.Author.Tests.{eq-eqb, ne-eqb}
 use Rattle.sets.specs.Sets.{has, only, add, minus, count, largest, smallest, listed, every, some}
-use Rattle.sets.proofs.Laws.Bools.{clash, fails, lt-or-le, eq-or-ne, and-i, and-l, and-r, and-not-l}
+use Rattle.sets.proofs.Laws.Bools.{or-cases, clash, fails, lt-or-le, eq-or-ne, and-i, and-l, and-r, and-not-l}
 use Rattle.sets.proofs.Laws.Members.{has-minus, has-only, has-add-other, has-lt, none-in}
 
 -- no rank below n passes
@@ -326,6 +326,13 @@ first-member w n d q b h e = subst (Smallest (has w) n) (sym e) (go (smallest (h
     go r (least s) = s
     go r (LeastOf.empty f) = absurd (h (none-in w (λ k t. clash (has w k) t (f k (has-lt w n k b t)))))
 
+pub last-member : (w n d q : ℕ) → w < 2 ^ n → (w ≡ 0 → ⊥) → q ≡ largest (has w) n d → Largest (has w) n q
+last-member w n d q b h e = subst (Largest (has w) n) (sym e) (go (largest (has w) n d) (largest-cases (has w) n d))
+  where
+    go : (r : ℕ) → TopOf (has w) n d r → Largest (has w) n r
+    go r (top s) = s
+    go r (TopOf.empty f) = absurd (h (none-in w (λ k t. clash (has w k) t (f k (has-lt w n k b t)))))
+
 pub first-less : (w n d q o w′ : ℕ) → w < 2 ^ n → (w ≡ 0 → ⊥) → q ≡ smallest (has w) n d → o ≡ only q → w′ ≡ minus w o → count (has w′) n < count (has w) n
 first-less w n d q o w′ b h e eo ew =
     let sz : count (has w) n ≡ suc (count (has (minus w (only q))) n) = count-first w n q (first-member w n d q b h e) in
@@ -355,3 +362,10 @@ some-zero f = refl
 pub some-suc : (f : ℕ → Bool) (n : ℕ) → some f (suc n) ≡ some f n || f n
 unfolding some
 some-suc f n = refl
+
+pub some-one : (f : ℕ → Bool) (n : ℕ) → some f n ≡ true → (k : ℕ) × (k < n) × (f k ≡ true)
+some-one f zero e = absurd (clash (some f 0) e (some-zero f))
+some-one f (suc n) e = ⊎-elim
+    (λ (h : some f n ≡ true). let r = some-one f n h in (r .0, omega (arith, r .1), r .2))
+    (λ (h : f n ≡ true). (n, omega arith, h))
+    (or-cases (some f n) (f n) (sym (some-suc f n) ∙ e))

@@ -1,9 +1,9 @@
 -- How a parent is found, by any `above` that answers a smaller rank: among the ancestors up to the first that is unmarked, or else the lowest
--- unmarked rank. And before which rank nobody has q for a parent, over any ancestor sets. Assumes nothing.
+-- unmarked rank. Assumes nothing.
 use mathlib.Core.Path.{_≡_, sym, ap, subst, _∙_}
 use mathlib.Core.Bool.{Bool, true, false, cond, not}
 use mathlib.Core.Logic.{_⊎_, inl, inr, ⊎-elim}
-use Prim.Native.Nat.{ℕ, _+_, _≤_, _<_}
+use Prim.Native.Nat.{ℕ, _≤_, _<_}
 use native.Mathlib.Omega.{arith}
 use lib.Dec.{eqb}
 use borrow.Author.Tests.{ltb-true, eq-eqb, not-true, not-false, ne-eqb, eqb-true}
@@ -12,10 +12,10 @@ use Rattle.sets.proofs.Laws.Bools.{clash, passes-or-fails, lt-or-le, not-i, not
 use Rattle.sets.proofs.Laws.Members.{minus-l, minus-r, minus-not, has-below-lt, has-below, none-in, has-zero, has-add, has-add-same, minus-i}
 use Rattle.sets.proofs.Laws.Searches.{LeastOf, least, smallest-cases, largest-is}
 use Rattle.tree.specs.Tree.{ancestors, parent}
-use Rattle.tree.specs.Relations.{Above, Ancestry}
-use Rattle.tree.proofs.Kin.{Smaller, IsTree, MayLead}
+use Rattle.tree.specs.Relations.{Above}
+use Rattle.tree.proofs.Kin.{Smaller, IsTree}
 use Rattle.tree.proofs.Laws.Ancestors.{above-cases, next-above, ancestors-are-a-tree}
-use Rattle.tree.proofs.Laws.Parents.{Marked, Free, Parent, nearest, lowest, nobody, parent-is, parent-leads}
+use Rattle.tree.proofs.Laws.Parents.{Marked, Free, Parent, nearest, lowest, nobody, parent-is}
 
 -- The loop of `parent_of`, at a rank: each ancestor of p above that rank is marked, and while the lowest unmarked rank is below it, it is an
 -- ancestor of p.
@@ -24,7 +24,7 @@ pub record Rising (above : ℕ → ℕ) (marks p low at : ℕ) : Type 0 where
   pub ahead : low < at → Above (ancestors above) p at
 
 -- along the code: the ranks below p, those unmarked, and the lowest of them
-low-cases : (marks p m under unmarked low : ℕ) → p < m → under ≡ below p → unmarked ≡ minus under marks → low ≡ smallest (has unmarked) m none → LeastOf (λ k. not (has marks k)) p none low
+pub low-cases : (marks p m under unmarked low : ℕ) → p ≤ m → under ≡ below p → unmarked ≡ minus under marks → low ≡ smallest (has unmarked) m none → LeastOf (λ k. not (has marks k)) p none low
 low-cases marks p m under unmarked low l u v e = go low (subst (λ (x : ℕ). LeastOf (has unmarked) m none x) (sym e) (smallest-cases (has unmarked) m none))
   where
     same : (k : ℕ) → has (minus (below p) marks) k ≡ has unmarked k
@@ -56,7 +56,7 @@ module _ (above : ℕ → ℕ) (smaller : Smaller above) where
   pub rising-start : (marks p m under unmarked low at : ℕ) → p < m → at ≤ none → under ≡ below p → unmarked ≡ minus under marks → low ≡ smallest (has unmarked) m none → at ≡ above p → Rising above marks p low at
   rising-start marks p m under unmarked low at l s u v f e = record {
     passed = λ k a c. absurd (omega (arith, none-nearer p k a));
-    ahead = ahead low (low-cases marks p m under unmarked low l u v f);
+    ahead = ahead low (low-cases marks p m under unmarked low (omega arith) u v f);
   }
     where
       ahead : (r : ℕ) → LeastOf (λ k. not (has marks k)) p none r → r < at → Above anc p at
@@ -85,7 +85,7 @@ module _ (above : ℕ → ℕ) (smaller : Smaller above) where
 
   -- down to the lowest unmarked rank every ancestor is marked: that rank is the parent, an ancestor or not
   pub rising-end : (marks p m under unmarked low at : ℕ) → Rising above marks p low at → at ≤ low → p < m → under ≡ below p → unmarked ≡ minus under marks → low ≡ smallest (has unmarked) m none → low ≡ parent anc marks p
-  rising-end marks p m under unmarked low at g h l u v e = sym (parent-is anc marks p low (go low h (low-cases marks p m under unmarked low l u v e)))
+  rising-end marks p m under unmarked low at g h l u v e = sym (parent-is anc marks p low (go low h (low-cases marks p m under unmarked low (omega arith) u v e)))
     where
       go : (r : ℕ) → at ≤ r → LeastOf (λ k. not (has marks k)) p none r → Parent anc marks p r
       go r h (LeastOf.empty x) = nobody (λ k b. not-false (has marks k) (x k b))
@@ -158,25 +158,3 @@ parent-near line near marks low r q e h f c = f ∙ ap (λ (x : ℕ). largest (h
 
 pub parent-low : (line near marks low q : ℕ) → near ≡ minus line marks → near ≡ 0 → cond (eqb (minus line marks) 0) low (largest (has (minus line marks)) 64 none) ≡ q → low ≡ q
 parent-low line near marks low q e h c = sym (cond-true (eqb (minus line marks) 0) low (largest (has (minus line marks)) 64 none) (eq-eqb (minus line marks) 0 (sym e ∙ h))) ∙ c
-
--- ---- who has q for a parent: descendants of q, and any rank above q where every rank below q is marked. `low` is where descendants of q begin.
-
-pub nobody-before : (anc : ℕ → ℕ) → Ancestry anc → (marks q low first : ℕ) → q < none → ((p : ℕ) → Above anc p q → low ≤ p) → first ≡ cond (eqb (minus (below q) marks) 0) (q + 1) low
-    → (p : ℕ) → p < first → parent anc marks p ≡ q → ⊥
-nobody-before anc tree marks q low first s h f p b e = go (passes-or-fails (eqb under 0))
-  where
-    under : ℕ
-    under = minus (below q) marks
-
-    led : MayLead anc marks p q
-    led = subst (λ (a : ℕ). MayLead anc marks p a) e (parent-leads anc tree marks p (λ x. omega arith))
-
-    emptied : ((k : ℕ) → k < q → Marked marks k) → under ≡ 0
-    emptied m = none-in under (λ k t. clash (has marks k) (m k (ltb-true k q (sym (has-below q k) ∙ minus-l (below q) marks k t))) (minus-r (below q) marks k t))
-
-    go : (eqb under 0 ≡ true) ⊎ (eqb under 0 ≡ false) → ⊥
-    go (inl t) = omega (arith, led .smaller, f ∙ cond-true (eqb under 0) (q + 1) low t)
-    go (inr t) =
-        ⊎-elim (λ (u : Above anc p q). omega (arith, h p u, f ∙ cond-false (eqb under 0) (q + 1) low t))
-        (λ (m : (k : ℕ) → k < q → Marked marks k). clash (eqb under 0) (eq-eqb under 0 (emptied m)) t)
-        (led .either)

@@ -1,21 +1,18 @@
 -- The flat tree: half of a rank is smaller, so it is a tree; and its ancestor sets are those of document 01. Assumes nothing.
 use mathlib.Core.Path.{_≡_, refl, sym, ap, subst, _∙_}
-use mathlib.Core.Bool.{cond}
 use mathlib.Core.Logic.{_⊎_, ⊎-elim}
-use Prim.Native.Nat.{ℕ, zero, suc, _+_, _*_, _/_, _^_, _≤_, _<_}
+use Prim.Native.Nat.{ℕ, zero, suc, _/_, _^_, _<_}
 use native.Mathlib.Nat.{zero-div}
 use native.Mathlib.Numerals.{one-add}
 use native.Mathlib.Omega.{arith}
 use lib.Arith.{bin-ind}
-use lib.Dec.{eqb}
 use lib.Pow.{shr-shr}
-use Rattle.sets.specs.Sets.{none, add, minus, below}
+use Rattle.sets.specs.Sets.{none, add}
 use Rattle.sets.proofs.Laws.Bools.{eq-or-ne}
-use Rattle.tree.specs.Tree.{half, flat, parent}
+use Rattle.tree.specs.Tree.{half, flat}
 use Rattle.tree.specs.Relations.{Above, Ancestry, Chained}
 use Rattle.tree.proofs.Kin.{Rooted, Smaller, IsTree}
 use Rattle.tree.proofs.Laws.Ancestors.{ancestors-suc, above-cases, next-above, further-above, ancestors-are-a-tree}
-use Rattle.tree.proofs.Laws.Finding.{nobody-before}
 
 pub half-smaller : Smaller half
 unfolding half
@@ -53,15 +50,6 @@ half-above p h = next-above half half-smaller p h
 above-half : (p a : ℕ) → 0 < p → Above flat (p / 2) a → Above flat p a
 unfolding flat half
 above-half p a h u = further-above half half-smaller p a h u
-
--- An ancestor is at most half of a rank. So before 2 * q no parent is q, where a rank below q is unmarked.
-flat-half : (p a : ℕ) → Above flat p a → 2 * a ≤ p
-flat-half p a u =
-    let l : a < p = flat-ancestry .smaller p a u in
-    ⊎-elim (λ (e : a ≡ p / 2). omega arith) (λ (v : Above flat (p / 2) a). omega (arith, flat-ancestry .smaller (p / 2) a v)) (half-cases p a (omega arith) u)
-
-pub flat-first : (marks q first : ℕ) → q < none → first ≡ cond (eqb (minus (below q) marks) 0) (q + 1) (2 * q) → (p : ℕ) → p < first → parent flat marks p ≡ q → ⊥
-flat-first marks q first l e = nobody-before flat flat-ancestry marks q (2 * q) first l (λ p u. flat-half p q u) e
 
 -- The ancestors of p are floor(p/2^i) for i from 1, up to and including 0; rank 0 has none.
 pub flat-halves : (p a : ℕ) → Above flat p a → (i : ℕ) × (0 < p) × (a ≡ p / 2 ^ suc i)

@@ -1,25 +1,27 @@
--- Mending, over any ancestor sets: one newly known death moves exactly the links that ended at the dead rank, so a table that is
--- fresh becomes the fresh one by working those out anew. Assumes nothing.
+-- Mending, over any ancestor sets: one newly known death moves exactly the links that ended at the dead rank; over any that form a chain, a
+-- table that is fresh becomes the fresh one as these go to the dead rank's heir. Assumes nothing.
 use mathlib.Core.Path.{_≡_, refl, sym, ap, ap₂, subst, _∙_}
 use mathlib.Core.Bool.{Bool, true, false, cond, not, _&&_, _||_}
 use mathlib.Core.List.{List}
 use mathlib.Core.Logic.{⊎-elim}
-use Prim.Native.Nat.{ℕ, zero, suc, _+_, _*_, _^_, _≤_, _<_}
+use Prim.Native.Nat.{ℕ, zero, suc, _+_, _*_, _≤_, _<_}
 use native.Mathlib.Numerals.{add-one}
 use native.Mathlib.Omega.{arith}
 use lib.Dec.{eqb, ltb}
-use lib.ListN.{getD, set, replicate}
+use lib.ListN.{length, getD, set, replicate}
 use borrow.Author.Tests.{eq-eqb, ne-eqb, eqb-true, lt-ltb, le-ltb}
-use Rattle.sets.specs.Sets.{none, has, only, add, minus, union, meet, below, setOf, count, smallest, some}
-use Rattle.sets.proofs.Laws.Bools.{clash, fails, passes, lt-or-le, eq-or-ne, same-test, and-i, and-not-r, or-neither, not-i, not-o}
-use Rattle.sets.proofs.Laws.Members.{add-again, has-add-less, has-zero, has-union, has-meet, has-setOf, none-in, ext, setOf-passes, setOf-within, setOf-has, setOf-cong, setOf-put, setOf-skip, setOf-zero, minus-setOf, union-none, none-union, add-across, meet-in, meet-out, meet-nobody, union-below-suc, union-below-zero}
-use Rattle.sets.proofs.Laws.Searches.{Smallest, first-member, count-none, count-le, some-zero, some-suc}
-use Rattle.tree.specs.Tree.{parent, children, entry, fresh, moves, sized, moved, endedAt, nobody}
+use Rattle.sets.specs.Sets.{none, has, add, minus, union, meet, below, setOf, count, smallest, some}
+use Rattle.sets.proofs.Laws.Bools.{clash, passes, lt-or-le, eq-or-ne, same-test, cond-true, cond-false, and-i, and-not-r, or-neither, not-i, not-o}
+use Rattle.sets.proofs.Laws.Members.{minus-l, add-again, has-add-less, has-zero, has-union, has-meet, has-setOf, none-in, ext, setOf-passes, setOf-within, setOf-has, setOf-cong, minus-setOf, union-none, union-below-suc, union-below-zero}
+use Rattle.sets.proofs.Laws.Searches.{count-none, count-le, some-zero, some-suc}
+use Rattle.tree.specs.Tree.{row, parent, children, entry, fresh, moves, sized, moved, endedAt, nobody}
+use Rattle.tree.specs.Relations.{Ancestry, Chained}
 use Rattle.tree.specs.Calls.{mended, mendedBelow, movedBelow, andThen}
 use Rattle.tree.specs.declared.Moved.{Moved}
 use Rattle.tree.specs.declared.Mended.{Mended}
-use Rattle.tree.proofs.Laws.Rows.{getD-row, Patched, patched-start, patched-from, patched-put, patched-keep, patched-end, entry-below, entry-past, fresh-at, row-replicate}
+use Rattle.tree.proofs.Laws.Rows.{getD-row, row-is, row-cong, Patched, patched-start, patched-put, patched-end, entry-below, entry-past, fresh-at, row-replicate}
 use Rattle.tree.proofs.Laws.Parents.{Marked, Free, parent-free, parent-stays, parent-leaves}
+use Rattle.tree.proofs.Laws.Heirs.{heir-is}
 
 -- One newly known death moves exactly the links that ended at the dead rank: those move, and no other does.
 pub moves-exactly : (anc : ℕ → ℕ) (marks q p : ℕ) → q < none → not (eqb (parent anc (add marks q) p) (parent anc marks p)) ≡ eqb (parent anc marks p) q
@@ -127,9 +129,6 @@ moved-le : (anc : ℕ → ℕ) (n marks q : ℕ) → moved anc n marks q .count 
 unfolding moved sized
 moved-le anc n marks q = count-le (has (setOf (moves anc marks q) n)) 64
 
--- ---- the scan of `mend` and `children_of`: the set holds the ranks before i whose parent is q. It starts where nobody before has q for a
--- parent, which may be past the group.
-
 -- where nobody from n on passes, n is bound enough
 setOf-cut : (f : ℕ → Bool) (n i : ℕ) → n ≤ i → ((k : ℕ) → n ≤ k → k < i → f k ≡ false) → setOf f i ≡ setOf f n
 setOf-cut f n i h past = ext (setOf f i) (setOf f n) (λ k. same-test (has (setOf f i) k) (has (setOf f n) k) (fewer k) (λ t. setOf-has f i k (omega (arith, setOf-within f n k t)) (setOf-passes f n k t)))
@@ -137,81 +136,100 @@ setOf-cut f n i h past = ext (setOf f i) (setOf f n) (λ k. same-test (has (setO
     fewer : (k : ℕ) → has (setOf f i) k ≡ true → has (setOf f n) k ≡ true
     fewer k t = ⊎-elim (λ (l : k < n). setOf-has f n k l (setOf-passes f i k t)) (λ (l : n ≤ k). absurd (clash (f k) (setOf-passes f i k t) (past k l (setOf-within f i k t)))) (lt-or-le k n)
 
-pub record Pointing (anc : ℕ → ℕ) (n marks q i w : ℕ) : Type 0 where
-  pub past : (p : ℕ) → n ≤ p → p < i → parent anc marks p ≡ q → ⊥
-  pub held : w ≡ setOf (λ p. eqb (parent anc marks p) q) i
-
-pub pointing-start : (anc : ℕ → ℕ) (n marks q i : ℕ) → ((p : ℕ) → p < i → parent anc marks p ≡ q → ⊥) → Pointing anc n marks q i 0
-pointing-start anc n marks q i h = record {
-  past = λ p b l. h p l;
-  held = sym (setOf-cut (λ p. eqb (parent anc marks p) q) 0 i (omega arith) (λ p b l. ne-eqb (parent anc marks p) q (h p l)) ∙ setOf-zero (λ p. eqb (parent anc marks p) q));
-}
-
-pointing-put : (anc : ℕ → ℕ) (n marks q i w s w′ : ℕ) → Pointing anc n marks q i w → i < n → parent anc marks i ≡ q → s ≡ add w i → w′ ≡ s → Pointing anc n marks q (i + 1) w′
-pointing-put anc n marks q i w s w′ m l e es ew = record {
-  past = λ p b o. absurd (omega arith);
-  held = ew ∙ es ∙ setOf-put (λ p. eqb (parent anc marks p) q) i w (m .held) (eq-eqb (parent anc marks i) q e);
-}
-
-pointing-skip : (anc : ℕ → ℕ) (n marks q i w w′ : ℕ) → Pointing anc n marks q i w → i < n → (parent anc marks i ≡ q → ⊥) → w′ ≡ w → Pointing anc n marks q (i + 1) w′
-pointing-skip anc n marks q i w w′ m l d ew = record {
-  past = λ p b o. absurd (omega arith);
-  held = ew ∙ setOf-skip (λ p. eqb (parent anc marks p) q) i w (m .held) (ne-eqb (parent anc marks i) q d);
-}
-
-pointing-end : (anc : ℕ → ℕ) (n marks q i w : ℕ) → Pointing anc n marks q i w → n ≤ i → w ≡ setOf (λ p. eqb (parent anc marks p) q) n
-pointing-end anc n marks q i w m h = m .held ∙ setOf-cut (λ p. eqb (parent anc marks p) q) n i h (λ p b l. ne-eqb (parent anc marks p) q (m .past p b l))
-
--- ---- the loop of `mend`: the first i entries are the new table's, and the set holds those of them that pointed at q
-
-pub record Mending (anc : ℕ → ℕ) (n marks q i : ℕ) (t : List ℕ) (w : ℕ) : Type 0 where
-  pub table : Patched 0 (entry anc n (add marks q)) (entry anc n marks) 64 i t
-  pub changed : Pointing anc n marks q i w
-
--- before the first entry the two tables are the same
-pub mending-start : (anc : ℕ → ℕ) (n marks q i : ℕ) (t : List ℕ) → t ≡ fresh anc n marks → ((p : ℕ) → p < i → parent anc marks p ≡ q → ⊥) → Mending anc n marks q i t 0
-unfolding fresh entry
-mending-start anc n marks q i t e h = record {
-  table = patched-from 0 (entry anc n (add marks q)) (entry anc n marks) 64 i t e (λ p l. ap (λ (x : ℕ). cond (ltb p n) x none) (sym (parent-stays anc marks q p (h p l))));
-  changed = pointing-start anc n marks q i h;
-}
-
--- what stands at i is still the old parent
-pub mending-reads : (anc : ℕ → ℕ) (n marks q i : ℕ) (t : List ℕ) (w : ℕ) → n ≤ 64 → Mending anc n marks q i t w → i < n → getD t i 0 ≡ parent anc marks i
-mending-reads anc n marks q i t w s m l = m .table .rest i (omega arith) (omega arith) ∙ entry-below anc n marks i l
-
-pub mending-put : (anc : ℕ → ℕ) (n marks q i : ℕ) (t : List ℕ) (w after v s : ℕ) (t′ : List ℕ) (w′ : ℕ) → n ≤ 64 → Mending anc n marks q i t w → i < n → getD t i 0 ≡ q
-    → after ≡ add marks q → v ≡ parent anc after i → t′ ≡ set t i v → s ≡ add w i → w′ ≡ s → Mending anc n marks q (i + 1) t′ w′
-mending-put anc n marks q i t w after v s t′ w′ b m l h ea ev et es ew = record {
-  table = rw et (patched-put 0 (entry anc n (add marks q)) (entry anc n marks) 64 i v t (m .table) (omega arith) (ev ∙ ap (λ (x : ℕ). parent anc x i) ea ∙ sym (entry-below anc n (add marks q) i l)));
-  changed = pointing-put anc n marks q i w s w′ (m .changed) l (sym (mending-reads anc n marks q i t w b m l) ∙ h) es ew;
-}
-
-pub mending-keep : (anc : ℕ → ℕ) (n marks q i : ℕ) (t : List ℕ) (w : ℕ) (t′ : List ℕ) (w′ : ℕ) → n ≤ 64 → Mending anc n marks q i t w → i < n → (getD t i 0 ≡ q → ⊥)
-    → t′ ≡ t → w′ ≡ w → Mending anc n marks q (i + 1) t′ w′
-mending-keep anc n marks q i t w t′ w′ b m l h et ew =
-    let d : parent anc marks i ≡ q → ⊥ = λ x. h (mending-reads anc n marks q i t w b m l ∙ x) in
-    record {
-      table = rw et (patched-keep 0 (entry anc n (add marks q)) (entry anc n marks) 64 i t (m .table) (entry-below anc n marks i l ∙ sym (parent-stays anc marks q i d) ∙ sym (entry-below anc n (add marks q) i l)));
-      changed = pointing-skip anc n marks q i w w′ (m .changed) l d ew;
-    }
-
-pub mending-table : (anc : ℕ → ℕ) (n marks q i : ℕ) (t : List ℕ) (w : ℕ) → Mending anc n marks q i t w → n ≤ i → t ≡ fresh anc n (add marks q)
+-- in a fresh table the entries that are q are the links that end at q
+pub entries-fresh : (anc : ℕ → ℕ) (n marks q : ℕ) (t : List ℕ) → n ≤ 64 → q < none → t ≡ fresh anc n marks → setOf (λ p. eqb (getD t p 0) q) 64 ≡ setOf (λ p. eqb (parent anc marks p) q) n
 unfolding fresh
-mending-table anc n marks q i t w m h = patched-end 0 (entry anc n (add marks q)) (entry anc n marks) 64 i t (m .table) (λ k l b. entry-past anc n marks k (omega arith) ∙ sym (entry-past anc n (add marks q) k (omega arith)))
+entries-fresh anc n marks q t b l e =
+    setOf-cong (λ p. eqb (getD t p 0) q) (λ p. eqb (entry anc n marks p) q) 64 (λ p h. ap (λ (x : ℕ). eqb x q) (ap (λ (x : List ℕ). getD x p 0) e ∙ getD-row (entry anc n marks) 64 p 0 h))
+    ∙ setOf-cut (λ p. eqb (entry anc n marks p) q) n 64 b (λ p h m. ne-eqb (entry anc n marks p) q (λ x. omega (arith, entry-past anc n marks p h)))
+    ∙ setOf-cong (λ p. eqb (entry anc n marks p) q) (λ p. eqb (parent anc marks p) q) n (λ p h. ap (λ (x : ℕ). eqb x q) (entry-below anc n marks p h))
 
-mending-ranks : (anc : ℕ → ℕ) (n marks q i : ℕ) (t : List ℕ) (w : ℕ) → q < none → Mending anc n marks q i t w → n ≤ i → minus w (add marks q) ≡ setOf (moves anc marks q) n
-mending-ranks anc n marks q i t w b m h =
-    ap (λ (x : ℕ). minus x (add marks q)) (pointing-end anc n marks q i w (m .changed) h)
+-- the children are the unmarked ones of these
+pub linked-children : (anc : ℕ → ℕ) (n marks p : ℕ) → minus (setOf (λ c. eqb (parent anc marks c) p) n) marks ≡ children anc n marks p
+unfolding children
+linked-children anc n marks p = minus-setOf (λ c. eqb (parent anc marks c) p) n marks
+
+pub children-read : (anc : ℕ → ℕ) (n marks p w r : ℕ) (t : List ℕ) → n ≤ 64 → p < 64 → t ≡ fresh anc n marks → w ≡ setOf (λ c. eqb (getD t c 0) p) 64 → r ≡ minus w marks → r ≡ children anc n marks p
+children-read anc n marks p w r t b l e h f = f ∙ ap (λ (x : ℕ). minus x marks) (h ∙ entries-fresh anc n marks p t b (omega arith) e) ∙ linked-children anc n marks p
+
+-- ---- `mend`: an entry that was q becomes its heir, and no other changes
+
+abbrev pub handedOn : List ℕ → ℕ → ℕ → ℕ → ℕ
+handedOn t q next p = cond (eqb (getD t p 0) q) (cond (ltb next p) next none) (getD t p 0)
+
+-- what stands at q is q's parent
+table-parent : (anc : ℕ → ℕ) (n marks q : ℕ) (t : List ℕ) → n ≤ 64 → q < n → t ≡ fresh anc n marks → getD t q 0 ≡ parent anc marks q
+table-parent anc n marks q t b l e = ap (λ (x : List ℕ). getD x q 0) e ∙ fresh-at anc n marks q b l
+
+mended-entry : (anc : ℕ → ℕ) → Ancestry anc → Chained anc → (n marks q after next : ℕ) (t : List ℕ) → n ≤ 64 → q < n → t ≡ fresh anc n marks → after ≡ add marks q
+    → next ≡ cond (eqb (getD t q 0) none) (smallest (has (minus (below 64) after)) 64 none) (getD t q 0) → (p : ℕ) → p < 64 → handedOn t q next p ≡ entry anc n after p
+unfolding fresh
+mended-entry anc tree chain n marks q after next t b o e a f p l = ⊎-elim inside outside (lt-or-le p n)
+  where
+    at : getD t p 0 ≡ entry anc n marks p
+    at = ap (λ (x : List ℕ). getD x p 0) e ∙ getD-row (entry anc n marks) 64 p 0 l
+
+    other : (getD t p 0 ≡ q → ⊥) → handedOn t q next p ≡ getD t p 0
+    other d = cond-false (eqb (getD t p 0) q) (cond (ltb next p) next none) (getD t p 0) (ne-eqb (getD t p 0) q d)
+
+    inside : p < n → handedOn t q next p ≡ entry anc n after p
+    inside h =
+        let g : getD t p 0 ≡ parent anc marks p = at ∙ entry-below anc n marks p h in
+        ⊎-elim
+        (λ (i : getD t p 0 ≡ q). cond-true (eqb (getD t p 0) q) (cond (ltb next p) next none) (getD t p 0) (eq-eqb (getD t p 0) q i)
+        ∙ heir-is anc tree chain marks q p after (getD t q 0) next l (omega arith) (sym g ∙ i) (table-parent anc n marks q t b o e) a f)
+        (λ (d : getD t p 0 ≡ q → ⊥). other d ∙ g ∙ sym (parent-stays anc marks q p (λ x. d (g ∙ x))) ∙ ap (λ (x : ℕ). parent anc x p) (sym a))
+        (eq-or-ne (getD t p 0) q)
+        ∙ sym (entry-below anc n after p h)
+
+    outside : n ≤ p → handedOn t q next p ≡ entry anc n after p
+    outside h = let g : getD t p 0 ≡ none = at ∙ entry-past anc n marks p h in other (λ x. omega arith) ∙ g ∙ sym (entry-past anc n after p h)
+
+mended-ranks : (anc : ℕ → ℕ) (n marks q after w : ℕ) → q < none → after ≡ add marks q → w ≡ setOf (λ p. eqb (parent anc marks p) q) n → minus w after ≡ setOf (moves anc marks q) n
+mended-ranks anc n marks q after w b a e =
+    ap₂ minus e a
     ∙ minus-setOf (λ p. eqb (parent anc marks p) q) n (add marks q)
     ∙ sym (setOf-cong (moves anc marks q) (λ p. not (has (add marks q) p) && eqb (parent anc marks p) q) n (λ p l. moves-linked anc marks q p b))
 
-pub mending-end : (anc : ℕ → ℕ) (n marks q i : ℕ) (t : List ℕ) (w after left : ℕ) (v : Moved) → n ≤ 64 → q < n → Mending anc n marks q i t w → n ≤ i
-    → after ≡ add marks q → left ≡ minus w after → v ≡ sized left → _≡_ {A = Mended} (record { marks = after; table = t; moved = v }) (mended anc n marks q)
-unfolding mended moved
-mending-end anc n marks q i t w after left v b l m h ea el ev =
-    let e : v ≡ sized (setOf (moves anc marks q) n) = ev ∙ ap sized (el ∙ ap (minus w) ea ∙ mending-ranks anc n marks q i t w (omega arith) m h) in
-    rw (ea, mending-table anc n marks q i t w m h, e)
+pub mended-whole : (anc : ℕ → ℕ) → Ancestry anc → Chained anc → (n marks q after w next left : ℕ) (t t′ : List ℕ) (v : Moved) → n ≤ 64 → q < n → t ≡ fresh anc n marks → after ≡ add marks q
+    → w ≡ setOf (λ p. eqb (getD t p 0) q) 64 → next ≡ cond (eqb (getD t q 0) none) (smallest (has (minus (below 64) after)) 64 none) (getD t q 0)
+    → t′ ≡ row (handedOn t q next) 64 → left ≡ minus w after → v ≡ sized left → _≡_ {A = Mended} (record { marks = after; table = t′; moved = v }) (mended anc n marks q)
+unfolding mended moved fresh
+mended-whole anc tree chain n marks q after w next left t t′ v b o et a ew en e el ev =
+    let x : t′ ≡ row (entry anc n (add marks q)) 64 = e ∙ row-cong 0 (handedOn t q next) (entry anc n after) 64 (mended-entry anc tree chain n marks q after next t b o et a en) ∙ ap (λ (y : ℕ). row (entry anc n y) 64) a in
+    let y : v ≡ sized (setOf (moves anc marks q) n) = ev ∙ ap sized (el ∙ mended-ranks anc n marks q after w (omega arith) a (ew ∙ entries-fresh anc n marks q t b (omega arith) et)) in
+    rw (a, x, y)
+
+-- where no entry is q, the table stays
+pub mended-alone : (anc : ℕ → ℕ) (n marks q after w : ℕ) (t : List ℕ) (v : Moved) → n ≤ 64 → q < n → t ≡ fresh anc n marks → after ≡ add marks q
+    → w ≡ setOf (λ p. eqb (getD t p 0) q) 64 → w ≡ 0 → v ≡ nobody → _≡_ {A = Mended} (record { marks = after; table = t; moved = v }) (mended anc n marks q)
+unfolding mended moved fresh
+mended-alone anc n marks q after w t v b o et a ew z ev =
+    let e : setOf (λ p. eqb (parent anc marks p) q) n ≡ 0 = sym (ew ∙ entries-fresh anc n marks q t b (omega arith) et) ∙ z in
+    let x : t ≡ row (entry anc n (add marks q)) 64 = et ∙ row-cong 0 (entry anc n marks) (entry anc n (add marks q)) 64 (λ p l. stays p (none e p)) in
+    let y : v ≡ sized (setOf (moves anc marks q) n) = ev ∙ sym (ap sized (sym (mended-ranks anc n marks q after w (omega arith) a (z ∙ sym e)) ∙ ap (λ (k : ℕ). minus k after) z ∙ none-in (minus 0 after) (λ k h. clash (has 0 k) (minus-l 0 after k h) (has-zero k))) ∙ empty-sized) in
+    rw (a, x, y)
+  where
+    none : setOf (λ p. eqb (parent anc marks p) q) n ≡ 0 → (p : ℕ) → p < n → parent anc marks p ≡ q → ⊥
+    none e p l i = clash (has 0 p) (ap (λ (k : ℕ). has k p) (sym e) ∙ setOf-has (λ p. eqb (parent anc marks p) q) n p l (eq-eqb (parent anc marks p) q i)) (has-zero p)
+
+    stays : (p : ℕ) → (p < n → parent anc marks p ≡ q → ⊥) → entry anc n marks p ≡ entry anc n (add marks q) p
+    stays p h = ⊎-elim
+        (λ (l : p < n). entry-below anc n marks p l ∙ sym (parent-stays anc marks q p (h l)) ∙ sym (entry-below anc n (add marks q) p l))
+        (λ (l : n ≤ p). entry-past anc n marks p l ∙ sym (entry-past anc n (add marks q) p l))
+        (lt-or-le p n)
+
+-- ---- the loop of `hand_over`
+
+pub handing-start : (t : List ℕ) (q next : ℕ) → length t ≡ 64 → Patched 0 (handedOn t q next) (λ k. getD t k 0) 64 0 t
+handing-start t q next l = patched-start 0 (handedOn t q next) (λ k. getD t k 0) 64 t (row-is 0 (λ k. getD t k 0) 64 t l (λ k b. refl))
+
+pub handing-put : (t₀ t t′ : List ℕ) (q next p v : ℕ) → Patched 0 (handedOn t₀ q next) (λ k. getD t₀ k 0) 64 p t → p < 64 → v ≡ cond (eqb (getD t p 0) q) (cond (ltb next p) next none) (getD t p 0) → t′ ≡ set t p v
+    → Patched 0 (handedOn t₀ q next) (λ k. getD t₀ k 0) 64 (p + 1) t′
+handing-put t₀ t t′ q next p v m l e et = rw et (patched-put 0 (handedOn t₀ q next) (λ k. getD t₀ k 0) 64 p v t m l (e ∙ ap (λ (x : ℕ). cond (eqb x q) (cond (ltb next p) next none) x) (m .rest p (omega arith) l)))
+
+pub handing-end : (t₀ t : List ℕ) (q next p : ℕ) → Patched 0 (handedOn t₀ q next) (λ k. getD t₀ k 0) 64 p t → 64 ≤ p → t ≡ row (handedOn t₀ q next) 64
+handing-end t₀ t q next p m l = patched-end 0 (handedOn t₀ q next) (λ k. getD t₀ k 0) 64 p t m (λ k a b. absurd (omega arith))
 
 -- ---- marking all below q
 
@@ -253,7 +271,7 @@ unfolding mendedBelow
 below-end anc n start q k marks t v b l h = let e : q ≡ k = omega arith in rw (b .table-is, b .marks-are, b .moved-is, e)
 
 -- Who moves at the marks of all below q: whoever moves at one of them.
-abbrev atMark : (ℕ → ℕ) → ℕ → ℕ → ℕ → ℕ → Bool
+abbrev pub atMark : (ℕ → ℕ) → ℕ → ℕ → ℕ → ℕ → Bool
 atMark anc n marks p k = endedAt n k (add (union marks (below k)) k) (fresh anc n (union marks (below k))) p
 
 pub below-who : (anc : ℕ → ℕ) (n marks q p : ℕ) → n ≤ 64 → q ≤ none → has (movedBelow anc n marks q .ranks) p ≡ some (atMark anc n marks p) q
@@ -295,64 +313,6 @@ below-few anc n start q k marks t v m h b l o e =
     let a : m .moved .count ≤ 64 = subst (λ (x : Moved). x .count ≤ 64) (sym (ap (λ (x : Mended). x .moved) e)) (moved-le anc n marks k) in
     let c : v .count ≤ 64 * k = subst (λ (x : Moved). x .count ≤ 64 * k) (sym (b .moved-is)) (moved-below-le anc n start k) in
     omega arith
-
--- ---- the loop of `children_of`: each entry is read off the fresh table
-
-pub children-put : (anc : ℕ → ℕ) (n marks p i : ℕ) (t : List ℕ) (w s w′ : ℕ) → n ≤ 64 → t ≡ fresh anc n marks → Pointing anc n marks p i w → i < n → getD t i 0 ≡ p → s ≡ add w i → w′ ≡ s → Pointing anc n marks p (i + 1) w′
-children-put anc n marks p i t w s w′ b et h l e es ew = pointing-put anc n marks p i w s w′ h l (sym (fresh-at anc n marks i b l) ∙ ap (λ (x : List ℕ). getD x i 0) (sym et) ∙ e) es ew
-
-pub children-skip : (anc : ℕ → ℕ) (n marks p i : ℕ) (t : List ℕ) (w w′ : ℕ) → n ≤ 64 → t ≡ fresh anc n marks → Pointing anc n marks p i w → i < n → (getD t i 0 ≡ p → ⊥) → w′ ≡ w → Pointing anc n marks p (i + 1) w′
-children-skip anc n marks p i t w w′ b et h l d ew = pointing-skip anc n marks p i w w′ h l (λ x. d (ap (λ (y : List ℕ). getD y i 0) et ∙ fresh-at anc n marks i b l ∙ x)) ew
-
-pub children-end : (anc : ℕ → ℕ) (n marks p i w r : ℕ) → Pointing anc n marks p i w → n ≤ i → r ≡ minus w marks → r ≡ children anc n marks p
-unfolding children
-children-end anc n marks p i w r h l e = e ∙ ap (λ (x : ℕ). minus x marks) (pointing-end anc n marks p i w h l) ∙ minus-setOf (λ c. eqb (parent anc marks c) p) n marks
-
--- ---- the loop of `pointing`: what is found, and what is still to be found among those left, is what was to be found
-
-abbrev entriesAt : List ℕ → ℕ → ℕ
-entriesAt t q = setOf (λ p. eqb (getD t p 0) q) 64
-
-pub record Picking (t : List ℕ) (among q left found : ℕ) : Type 0 where
-  pub word : left < 2 ^ 64
-  pub rest : union found (meet left (entriesAt t q)) ≡ meet among (entriesAt t q)
-
-pub picking-start : (t : List ℕ) (among q : ℕ) → among < 2 ^ 64 → Picking t among q among 0
-picking-start t among q b = record { word = b; rest = none-union (meet among (entriesAt t q)) }
-
-pub picking-rank : (t : List ℕ) (among q left found p : ℕ) → Picking t among q left found → (left ≡ 0 → ⊥) → p ≡ smallest (has left) 64 none → p < 64
-picking-rank t among q left found p k h e = first-member left 64 none p (k .word) h e .within
-
-pub picking-put : (t : List ℕ) (among q left found p f found′ o left′ : ℕ) → Picking t among q left found → (left ≡ 0 → ⊥) → p ≡ smallest (has left) 64 none → getD t p 0 ≡ q → f ≡ add found p → found′ ≡ f
-    → o ≡ only p → left′ ≡ minus left o → left′ < 2 ^ 64 → Picking t among q left′ found′
-picking-put t among q left found p f found′ o left′ k h e g ef e′ eo el b =
-    let m : Smallest (has left) 64 p = first-member left 64 none p (k .word) h e in
-    let s : has (entriesAt t q) p ≡ true = setOf-has (λ p. eqb (getD t p 0) q) 64 p (m .within) (eq-eqb (getD t p 0) q g) in
-    record {
-      word = b;
-      rest = ap₂ (λ (x y : ℕ). union x (meet y (entriesAt t q))) (e′ ∙ ef) (el ∙ ap (minus left) eo) ∙ add-across found (meet (minus left (only p)) (entriesAt t q)) p
-          ∙ ap (union found) (sym (meet-in left (entriesAt t q) p (m .passes) s)) ∙ k .rest;
-    }
-
-pub picking-skip : (t : List ℕ) (among q left found p found′ o left′ : ℕ) → Picking t among q left found → (getD t p 0 ≡ q → ⊥) → found′ ≡ found
-    → o ≡ only p → left′ ≡ minus left o → left′ < 2 ^ 64 → Picking t among q left′ found′
-picking-skip t among q left found p found′ o left′ k g e′ eo el b =
-    let s : has (entriesAt t q) p ≡ false = fails (has (entriesAt t q) p) (λ x. g (eqb-true (getD t p 0) q (setOf-passes (λ p. eqb (getD t p 0) q) 64 p x))) in
-    record {
-      word = b;
-      rest = ap₂ (λ (x y : ℕ). union x (meet y (entriesAt t q))) e′ (el ∙ ap (minus left) eo) ∙ ap (union found) (sym (meet-out left (entriesAt t q) p s)) ∙ k .rest;
-    }
-
-pub picking-end : (t : List ℕ) (among q left found : ℕ) → Picking t among q left found → left ≡ 0 → found ≡ meet among (entriesAt t q)
-picking-end t among q left found k e = sym (ap (λ (x : ℕ). union found (meet x (entriesAt t q))) e ∙ ap (union found) (meet-nobody (entriesAt t q)) ∙ union-none found) ∙ k .rest
-
--- in a fresh table the entries that are q are the links that end at q
-pub entries-fresh : (anc : ℕ → ℕ) (n marks q : ℕ) (t : List ℕ) → n ≤ 64 → q < none → t ≡ fresh anc n marks → setOf (λ p. eqb (getD t p 0) q) 64 ≡ setOf (λ p. eqb (parent anc marks p) q) n
-unfolding fresh
-entries-fresh anc n marks q t b l e =
-    setOf-cong (λ p. eqb (getD t p 0) q) (λ p. eqb (entry anc n marks p) q) 64 (λ p h. ap (λ (x : ℕ). eqb x q) (ap (λ (x : List ℕ). getD x p 0) e ∙ getD-row (entry anc n marks) 64 p 0 h))
-    ∙ setOf-cut (λ p. eqb (entry anc n marks p) q) n 64 b (λ p h m. ne-eqb (entry anc n marks p) q (λ x. omega (arith, entry-past anc n marks p h)))
-    ∙ setOf-cong (λ p. eqb (entry anc n marks p) q) (λ p. eqb (parent anc marks p) q) n (λ p h. ap (λ (x : ℕ). eqb x q) (entry-below anc n marks p h))
 
 -- a child that is gained at a mark moved, and was a child of the marked one
 pub children-gained : (anc : ℕ → ℕ) (n marks q p : ℕ) → q < none → meet (moved anc n marks q .ranks) (setOf (λ c. eqb (parent anc (add marks q) c) p) n) ≡ meet (children anc n (add marks q) p) (children anc n marks q)

@@ -72,16 +72,6 @@ module _ {A : Type 0} where
       here : (k : ℕ) → k ≡ i → getD (set t i v) k d ≡ f k
       here k q = ap (λ (j : ℕ). getD (set t i v) j d) q ∙ getD-set-same t i v d (omega (arith, p .long)) ∙ e ∙ ap f (sym q)
 
-  pub patched-keep : (d : A) (f g : ℕ → A) (m i : ℕ) (t : List A) → Patched d f g m i t → g i ≡ f i → Patched d f g m (i + 1) t
-  patched-keep d f g m i t p e = record {
-    long = p .long;
-    done = λ k b c. ⊎-elim (λ (q : k ≡ i). here k c q) (λ (q : k ≡ i → ⊥). p .done k (omega arith) c) (eq-or-ne k i);
-    rest = λ k b c. p .rest k (omega arith) c;
-  }
-    where
-      here : (k : ℕ) → k < m → k ≡ i → getD t k d ≡ f k
-      here k c q = p .rest k (omega arith) c ∙ ap g q ∙ e ∙ ap f (sym q)
-
   pub patched-end : (d : A) (f g : ℕ → A) (m i : ℕ) (t : List A) → Patched d f g m i t → ((k : ℕ) → i ≤ k → k < m → g k ≡ f k) → t ≡ row f m
   patched-end d f g m i t p h =
       row-is d f m t (p .long) (λ k b. ⊎-elim (λ (l : k < i). p .done k l b) (λ (l : i ≤ k). p .rest k l b ∙ h k l b) (lt-or-le k i))
