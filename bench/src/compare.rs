@@ -137,7 +137,7 @@ pub fn schedules(seed: u64, count: usize) -> Result<usize, String> {
 pub fn beyond_files(seed: u64) -> Result<(), String> {
     let random = &mut Random::new(seed);
     for n in [0, 1, 3, 64, 65, 256 + 3, u32::MAX] {
-        let mut number = || random.pick(&[0, 1, 2, 3, 4, 5, 256 + 1, u32::MAX]).expect("one of them");
+        let mut number = || random.pick(&[0, 1, 2, 3, 4, 5, 6, 256 + 1, u32::MAX]).expect("one of them");
         let events: Vec<Event> = (0..30).map(|_| Event { kind: number(), a: number(), b: number() }).collect();
         let workload = Workload::new(&format!("random numbers for {n} ranks"), n, &events);
         for size in [0, 7, 30, u32::MAX] {

@@ -10,3 +10,5 @@ pub mod random;
 pub mod rank;
 #[path = "../../tests/model/src/tree.rs"]
 pub mod tree;
+#[path = "../../tests/model/src/triple.rs"]
+pub mod triple;

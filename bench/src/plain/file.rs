@@ -83,11 +83,11 @@ fn rank_line(text: &mut Vec<u8>, group: &Group, r: usize) {
     let rank = &group.ranks[r];
     let (me, lives, phase) = (r as u32, group.lives(r) as u32, rank.phase as u32);
     if rank.phase == Phase::Decided {
-        return line(text, b"r ", &[me, lives, phase, rank.result]);
+        return line(text, b"r ", &[me, lives, phase, rank.result.word, rank.result.code()]);
     }
     line(text, b"r ", &[me, lives, phase]);
     text.pop();
-    text.extend_from_slice(b" -\n");
+    text.extend_from_slice(b" - -\n");
 }
 
 /// The listing of a file, or its refusal.

@@ -3,7 +3,8 @@
 use super::mending::{Anew, Mending};
 use super::net::{Net, ROOM};
 use super::rank::{Phase, Rank};
-use super::tree::{fresh, Row, NONE};
+use super::tree::{fresh, Row};
+use super::triple::Triple;
 
 pub struct Group {
     pub n: usize,
@@ -24,10 +25,10 @@ fn refused(number: u32) -> Answer {
 
 /// What each event runs through is compiled into the loop over events, which is a tenth faster than calls.
 impl Group {
+    /// Ranks past the group start as all others do: nobody asks for them.
     pub fn start(n: usize) -> Group {
-        let mut group = Group { n, dead: 0, ranks: [Rank::ZERO; 64], tables: [[NONE; 64]; 64], net: Net::empty() };
-        group.tables[..n].fill(fresh(n, 0));
-        group.ranks[..n].iter_mut().for_each(|r| r.word = u32::MAX);
+        let one = Rank { triple: Triple::fresh(n), ..Rank::ZERO };
+        let mut group = Group { n, dead: 0, ranks: [one; 64], tables: [fresh(n, 0); 64], net: Net::empty() };
         for p in 1..n {
             group.ranks[p / 2].awaited |= 1 << p;
         }
@@ -59,6 +60,7 @@ impl Group {
             3 if b == 0 => self.crashes::<M>(a),
             4 => self.notices::<M>(a, b as usize),
             5 if b == 0 => self.loses(a),
+            6 if b == 0 => self.acknowledges(a),
             _ => refused(3),
         }
     }
@@ -134,6 +136,22 @@ impl Group {
             return refused(10);
         }
         self.net.leave(place);
+        NOTHING
+    }
+
+    #[inline(always)]
+    fn acknowledges(&mut self, a: usize) -> Answer {
+        if a >= self.n {
+            return refused(4);
+        }
+        if !self.lives(a) {
+            return refused(6);
+        }
+        let r = &mut self.ranks[a];
+        if r.phase != Phase::Outside {
+            return refused(7);
+        }
+        r.acknowledged = r.marks;
         NOTHING
     }
 

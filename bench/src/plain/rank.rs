@@ -3,9 +3,12 @@
 use super::group::Group;
 use super::mending::{Anew, Mending};
 use super::net::{Kind, Message};
-use super::tree::{members, parent, pointing, NONE};
+use super::tree::{handed, heir, members, pointing, NONE};
+use super::triple::Triple;
 
+/// Of eight bytes, so that a rank's record has no gap.
 #[derive(Clone, Copy, PartialEq)]
+#[repr(u64)]
 pub enum Phase {
     Outside,
     Gathering,
@@ -16,16 +19,26 @@ pub enum Phase {
 #[derive(Clone, Copy)]
 pub struct Rank {
     pub marks: u64,
+    pub acknowledged: u64,
     pub heard: u64,
     pub awaited: u64,
     pub owed: u64,
-    pub word: u32,
-    pub result: u32,
+    pub triple: Triple,
+    pub result: Triple,
     pub phase: Phase,
 }
 
 impl Rank {
-    pub const ZERO: Rank = Rank { marks: 0, heard: 0, awaited: 0, owed: 0, word: 0, result: 0, phase: Phase::Outside };
+    pub const ZERO: Rank = Rank {
+        marks: 0,
+        acknowledged: 0,
+        heard: 0,
+        awaited: 0,
+        owed: 0,
+        triple: Triple::ZERO,
+        result: Triple::ZERO,
+        phase: Phase::Outside,
+    };
 }
 
 impl Group {
@@ -33,36 +46,38 @@ impl Group {
         self.tables[me][me]
     }
 
-    fn send(&mut self, kind: Kind, me: usize, to: u64, word: u32) {
+    fn send(&mut self, kind: Kind, me: usize, to: u64, triple: Triple) {
         for q in members(to) {
-            self.net.join(kind, me, q as u8, word);
+            self.net.join(kind, me, q as u8, triple);
         }
     }
 
     /// DOWN to children and owed: a child is awaited or was heard, and who was heard is owed.
-    fn decide(&mut self, me: usize, x: u32) {
+    fn decide(&mut self, me: usize, x: Triple) {
         let r = &mut self.ranks[me];
         (r.result, r.phase) = (x, Phase::Decided);
         let to = (r.awaited | r.owed) & !r.marks;
         self.send(Kind::Down, me, to, x);
     }
 
+    /// A root's marks join what it decides, and not what it holds.
     fn settle(&mut self, me: usize) {
         let (parent, r) = (self.parent(me), &mut self.ranks[me]);
-        let word = r.word;
+        let triple = r.triple;
         if r.phase != Phase::Gathering || r.awaited != 0 {
             return;
         }
         if parent == NONE {
-            return self.decide(me, word);
+            let verdict = Triple { known: triple.known | r.marks, ..triple };
+            return self.decide(me, verdict);
         }
         r.phase = Phase::Waiting;
-        self.net.join(Kind::Up, me, parent, word);
+        self.net.join(Kind::Up, me, parent, triple);
     }
 
     pub fn enter(&mut self, me: usize, w: u32) -> u32 {
         let r = &mut self.ranks[me];
-        r.word &= w;
+        r.triple.combine(Triple { word: w, known: r.marks, acknowledged: r.acknowledged });
         r.phase = Phase::Gathering;
         self.settle(me);
         0
@@ -70,13 +85,13 @@ impl Group {
 
     pub fn receive<M: Mending>(&mut self, me: usize, m: Message) -> u32 {
         match m.kind {
-            Kind::Up => self.up(me, m.from, m.word),
-            Kind::Down => self.down(me, m.word),
+            Kind::Up => self.up(me, m.from, m.triple),
+            Kind::Down => self.down(me, m.triple),
             Kind::Ask => self.ask::<M>(me, m.from),
         }
     }
 
-    fn up(&mut self, me: usize, q: u8, x: u32) -> u32 {
+    fn up(&mut self, me: usize, q: u8, x: Triple) -> u32 {
         let r = &mut self.ranks[me];
         let result = r.result;
         if r.phase == Phase::Decided {
@@ -86,12 +101,12 @@ impl Group {
         r.heard |= 1 << q;
         r.owed |= 1 << q;
         r.awaited &= !(1 << q);
-        r.word &= x;
+        r.triple.combine(x);
         self.settle(me);
         0
     }
 
-    fn down(&mut self, me: usize, x: u32) -> u32 {
+    fn down(&mut self, me: usize, x: Triple) -> u32 {
         if matches!(self.ranks[me].phase, Phase::Gathering | Phase::Waiting) {
             self.decide(me, x);
         }
@@ -102,14 +117,14 @@ impl Group {
         let unknown = ((1 << q) - 1) & !self.ranks[me].marks;
         let moved = members(unknown).map(|k| self.mark::<M>(me, k).0).sum();
         let (parent, r) = (self.parent(me), &mut self.ranks[me]);
-        let (word, result) = (r.word, r.result);
+        let (triple, result) = (r.triple, r.result);
         if r.phase == Phase::Decided {
             self.net.join(Kind::Down, me, q, result);
             return moved;
         }
         r.owed |= 1 << q;
         if r.phase == Phase::Waiting && parent == q {
-            self.net.join(Kind::Up, me, q, word);
+            self.net.join(Kind::Up, me, q, triple);
         }
         self.settle(me);
         moved
@@ -122,7 +137,7 @@ impl Group {
         if phase == Phase::Waiting && parent as usize == q {
             self.orphan(me);
         } else if phase == Phase::Gathering && parent == NONE && above_q as usize == me {
-            self.send(Kind::Ask, me, gained, 0);
+            self.send(Kind::Ask, me, gained, Triple::ZERO);
         }
         self.settle(me);
         moved
@@ -131,13 +146,13 @@ impl Group {
     /// Waiting, and the parent died: reports to the new one, or gathers again as the root and asks all children.
     fn orphan(&mut self, me: usize) {
         let (parent, r) = (self.parent(me), &mut self.ranks[me]);
-        let word = r.word;
+        let triple = r.triple;
         if parent != NONE {
-            return self.net.join(Kind::Up, me, parent, word);
+            return self.net.join(Kind::Up, me, parent, triple);
         }
         let children = pointing(&self.tables[me], me as u8).fold(0, |set, p| set | 1 << p) & !r.marks;
         (r.heard, r.awaited, r.phase) = (0, children, Phase::Gathering);
-        self.send(Kind::Ask, me, children, 0);
+        self.send(Kind::Ask, me, children, Triple::ZERO);
     }
 
     /// Marks q. Gives how many moved, and the children gained: the unmarked ranks among those whose entry ended at q, and of these who ends
@@ -147,10 +162,11 @@ impl Group {
         self.ranks[me].marks |= 1 << q;
         self.rebuild(M::AT_MARK, me);
         let (row, r) = (&mut self.tables[me], &mut self.ranks[me]);
+        let heir = heir(row, r.marks, q);
         let (mut moved, mut gained) = (0, 0);
         for p in changed {
             if M::AT_MARK == Anew::Entries {
-                row[p] = parent(r.marks, p);
+                row[p] = handed(heir, p);
             }
             let unmarked = !r.marks >> p & 1;
             moved += unmarked as u32;

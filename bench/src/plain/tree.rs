@@ -43,6 +43,16 @@ pub fn fresh(n: usize, marks: u64) -> Row {
     row
 }
 
+/// Who takes over from q, who is marked now: its parent, or, where it had none, the lowest unmarked rank.
+pub fn heir(row: &Row, marks: u64, q: usize) -> u8 {
+    if row[q] == NONE { (!marks).trailing_zeros() as u8 } else { row[q] }
+}
+
+/// The entry of p that was q: the heir, and none for the heir itself and any below it.
+pub fn handed(heir: u8, p: usize) -> u8 {
+    if usize::from(heir) < p { heir } else { NONE }
+}
+
 /// The ranks whose entry is q, in one scan. Each byte becomes 1 or 0, and the eight words of bytes are laid over each other, each one bit
 /// further: 8 k + j is bit 8 j + k of them. It is faster than a bit at a time, or than eight words gathered by a product.
 pub fn pointing(row: &Row, q: u8) -> impl Iterator<Item = usize> {

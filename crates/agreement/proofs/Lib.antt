@@ -4,5 +4,6 @@ pub mod Progress
 pub mod Concord
 pub mod Votes
 pub mod Agreement
+pub mod Verdicts
 pub mod Overhearing
 pub mod Witnesses

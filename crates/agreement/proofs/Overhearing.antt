@@ -8,16 +8,17 @@ use Rattle.sets.specs.Sets.{has}
 use Rattle.tree.specs.Relations.{Ancestry, Chained}
 use Rattle.rank.proofs.Facts.{RankInOrder}
 use Rattle.rank.proofs.Overhearing.{overhearing}
-use Rattle.rank.proofs.Speech.{SaysWord, Speech}
+use Rattle.rank.proofs.Speech.{SaysTriple, Speech}
 use Rattle.rank.specs.declared.Rank.{Rank}
 use Rattle.rank.specs.declared.Send.{Send}
+use Rattle.rank.specs.Triples.{zeroTriple}
+use Rattle.rank.specs.declared.Triple.{Triple}
 use Rattle.rank.proofs.Turn.{Says, Turn}
 use Rattle.rank.proofs.Laws.RuleTurns.{overhear-turn}
-use Rattle.rank.proofs.Laws.SettleSpeech.{some-word, any-word}
+use Rattle.rank.proofs.Laws.SettleSpeech.{some-triple, any-triple}
 use Rattle.rank.proofs.Laws.RuleSpeeches.{overhear-speech}
-use Rattle.state.specs.declared.State.{State}
-use Rattle.state.specs.States.{rankAt, placeAt}
-use Rattle.group.proofs.Moves.{Carries, Flies, ByRank, Move, by-rank}
+use Rattle.group.proofs.Scenes.{Scene, Flies}
+use Rattle.group.proofs.Moves.{ByRank, Move, by-rank}
 use Rattle.agreement.proofs.Living.{Truthful}
 use Rattle.agreement.proofs.Progress.Invariant.{Progress}
 use Rattle.agreement.proofs.Progress.Moving.{a-move-keeps}
@@ -28,33 +29,29 @@ use Rattle.agreement.proofs.Votes.Reaching.{a-move-keeps-votes}
 
 -- p lives and q, which is below p, is not marked by it. p's record is what `overhearing` makes of it and all else stays; what p sends joins
 -- the messages in flight, and nothing else joins or leaves.
-pub record Overhears (anc : ℕ → ℕ) (n : ℕ) (s s′ : State) (p q : ℕ) : Type 0 where
+pub record Overhears (anc : ℕ → ℕ) (n : ℕ) (s s′ : Scene) (p q : ℕ) : Type 0 where
   pub own : p < n
-  pub lives : has (s .group .dead) p ≡ false
-  pub in-order : RankInOrder anc n p (rankAt s p)
+  pub lives : has (s .dead) p ≡ false
+  pub in-order : RankInOrder anc n p (s .rank p)
   pub lower : q < p
-  pub free : has (rankAt s p .marks) q ≡ false
-  pub dead-stays : s′ .group .dead ≡ s .group .dead
-  pub others : (j : ℕ) → (j ≡ p → ⊥) → rankAt s′ j ≡ rankAt s j
-  pub rank-is : rankAt s′ p ≡ overhearing anc n p q (rankAt s p) .rank
-  pub stays : (k b x w : ℕ) → Carries s k b x w → Carries s′ k b x w
-  pub was : (k b x w : ℕ) → Carries s′ k b x w → Carries s k b x w ⊎ ((b ≡ p) × SaysWord (overhearing anc n p q (rankAt s p) .first) (overhearing anc n p q (rankAt s p) .second) k w x)
-  pub joins : (k x w : ℕ) → SaysWord (overhearing anc n p q (rankAt s p) .first) (overhearing anc n p q (rankAt s p) .second) k w x → Carries s′ k p x w
+  pub free : has (s .rank p .marks) q ≡ false
+  pub dead-stays : s′ .dead ≡ s .dead
+  pub others : (j : ℕ) → (j ≡ p → ⊥) → s′ .rank j ≡ s .rank j
+  pub rank-is : s′ .rank p ≡ overhearing anc n p q (s .rank p) .rank
+  pub stays : (k b x : ℕ) (w : Triple) → s .Carries k b x w → s′ .Carries k b x w
+  pub was : (k b x : ℕ) (w : Triple) → s′ .Carries k b x w → s .Carries k b x w ⊎ ((b ≡ p) × SaysTriple (overhearing anc n p q (s .rank p) .first) (overhearing anc n p q (s .rank p) .second) k w x)
+  pub joins : (k x : ℕ) (w : Triple) → SaysTriple (overhearing anc n p q (s .rank p) .first) (overhearing anc n p q (s .rank p) .second) k w x → s′ .Carries k p x w
 
 -- nobody enters
-abbrev pub NoEntry : ℕ → ℕ → Type 0
+abbrev pub NoEntry : ℕ → Triple → Type 0
 NoEntry p v = ⊥
 
--- a message in flight carries some word
-carried : (s : State) (k b x : ℕ) → (h : Flies s k b x) → Carries s k b x (placeAt s (h .place) .word)
-carried s k b x h = record { flies = h; word-is = refl }
-
-module _ (anc : ℕ → ℕ) (tree : Ancestry anc) (n : ℕ) (small : n ≤ 64) (s s′ : State) (p q : ℕ) (o : Overhears anc n s s′ p q) where
+module _ (anc : ℕ → ℕ) (tree : Ancestry anc) (n : ℕ) (small : n ≤ 64) (s s′ : Scene) (p q : ℕ) (o : Overhears anc n s s′ p q) where
   abbrev f : Send
-  f = overhearing anc n p q (rankAt s p) .first
+  f = overhearing anc n p q (s .rank p) .first
 
   abbrev g : Send
-  g = overhearing anc n p q (rankAt s p) .second
+  g = overhearing anc n p q (s .rank p) .second
 
   turn : ByRank anc n s s′ p 0 0 f g
   turn = record {
@@ -62,33 +59,33 @@ module _ (anc : ℕ → ℕ) (tree : Ancestry anc) (n : ℕ) (small : n ≤ 64) 
     lives = o .lives;
     dead-stays = o .dead-stays;
     others = o .others;
-    turn = subst (λ (r : Rank). Turn anc n p 0 0 (rankAt s p) r f g) (sym (o .rank-is)) (overhear-turn anc tree n p small (o .own) q (rankAt s p) (o .in-order) (o .lower) (o .free));
+    turn = subst (λ (r : Rank). Turn anc n p 0 0 (s .rank p) r f g) (sym (o .rank-is)) (overhear-turn anc tree n p small (o .own) q (s .rank p) (o .in-order) (o .lower) (o .free));
     took = λ h. absurd (h refl);
     known = λ h. absurd (h refl);
-    stays = λ k b x h. inl (o .stays k b x (placeAt s (h .place) .word) (carried s k b x h) .flies);
-    was = λ k b x h. go k b x (placeAt s′ (h .place) .word) (o .was k b x (placeAt s′ (h .place) .word) (carried s′ k b x h));
-    joins = λ k x h. let w = some-word f g k x h in o .joins k x (w .0) (w .1) .flies;
+    stays = λ k b x h. inl (h .0, o .stays k b x (h .0) (h .1));
+    was = λ k b x h. go k b x (h .0) (o .was k b x (h .0) (h .1));
+    joins = λ k x h. let w = some-triple f g k x h in (w .0, o .joins k x (w .0) (w .1));
   }
     where
-      go : (k b x w : ℕ) → Carries s k b x w ⊎ ((b ≡ p) × SaysWord f g k w x) → Flies s k b x ⊎ ((b ≡ p) × Says f g k x)
-      go k b x w (inl h) = inl (h .flies)
-      go k b x w (inr h) = inr (h .0, any-word f g k w x (h .1))
+      go : (k b x : ℕ) (w : Triple) → s .Carries k b x w ⊎ ((b ≡ p) × SaysTriple f g k w x) → Flies s k b x ⊎ ((b ≡ p) × Says f g k x)
+      go k b x w (inl h) = inl (w, h)
+      go k b x w (inr h) = inr (h .0, any-triple f g k w x (h .1))
 
   pub overhears-moves : Move anc n NoEntry s s′
-  overhears-moves = by-rank p 0 0 0 f g turn (record {
-    speech = subst (λ (r : Rank). Speech anc n p 0 0 0 (NoEntry p 0) (rankAt s p) r f g) (sym (o .rank-is)) (overhear-speech anc n p small (o .own) (NoEntry p 0) 0 q (rankAt s p) (o .lower) (o .free));
+  overhears-moves = by-rank p 0 0 zeroTriple f g turn (record {
+    speech = subst (λ (r : Rank). Speech anc n p 0 0 zeroTriple (NoEntry p zeroTriple) (s .rank p) r f g) (sym (o .rank-is)) (overhear-speech anc n p small (o .own) (NoEntry p zeroTriple) zeroTriple q (s .rank p) (o .lower) (o .free));
     took = λ h. absurd (h refl);
     asker = λ h. absurd (omega arith);
     was = o .was;
   })
 
--- It keeps all three invariants, with the words as they were entered.
-module _ (anc : ℕ → ℕ) (tree : Ancestry anc) (chain : Chained anc) (n : ℕ) (small : n ≤ 64) (s s′ : State) (true′ : Truthful n s′) (p q : ℕ) (o : Overhears anc n s s′ p q) where
+-- It keeps all three invariants, with the proposals as they were.
+module _ (anc : ℕ → ℕ) (tree : Ancestry anc) (chain : Chained anc) (n : ℕ) (small : n ≤ 64) (s s′ : Scene) (true′ : Truthful n s′) (p q : ℕ) (o : Overhears anc n s s′ p q) where
   pub overhearing-stands : Progress anc n s → Progress anc n s′
   overhearing-stands inv = a-move-keeps anc tree chain n small s s′ true′ inv NoEntry (overhears-moves anc tree n small s s′ p q o)
 
   pub overhearing-agrees : Concord anc n s → Concord anc n s′
   overhearing-agrees inv = a-move-agrees anc tree chain n small NoEntry s s′ true′ inv (overhears-moves anc tree n small s s′ p q o)
 
-  pub overhearing-votes : (words : ℕ → ℕ) → Votes anc n words s → Votes anc n words s′
-  overhearing-votes words inv = a-move-keeps-votes anc tree chain n small NoEntry s s′ true′ words words (λ b v e. absurd e) (λ i e. refl) inv (overhears-moves anc tree n small s s′ p q o)
+  pub overhearing-votes : (proposals : ℕ → Triple) → Votes anc n proposals s → Votes anc n proposals s′
+  overhearing-votes proposals inv = a-move-keeps-votes anc tree chain n small NoEntry s s′ true′ proposals proposals (λ b v e. absurd e) (λ i e. refl) inv (overhears-moves anc tree n small s s′ p q o)

@@ -8,9 +8,11 @@ use Rattle.sets.proofs.Laws.Bools.{clash}
 use Rattle.sets.proofs.Laws.Members.{has-zero}
 use Rattle.tree.specs.Relations.{Ancestry}
 use Rattle.rank.specs.declared.Rank.{Rank}
-use Rattle.rank.specs.Words.{outside, allBits}
+use Rattle.rank.specs.Words.{outside}
+use Rattle.rank.specs.Triples.{freshTriple}
 use Rattle.rank.specs.Records.{freshRank}
-use Rattle.rank.proofs.Laws.Keeping.{fresh-outside, fresh-heard, fresh-owed, fresh-word}
+use Rattle.rank.specs.declared.Triple.{Triple}
+use Rattle.rank.proofs.Laws.Keeping.{fresh-outside, fresh-heard, fresh-owed, fresh-triple}
 use Rattle.events.specs.declared.Event.{Event}
 use Rattle.state.specs.declared.State.{State}
 use Rattle.state.specs.States.{rankAt}
@@ -18,23 +20,24 @@ use Rattle.state.specs.Starting.{freshState, started}
 use Rattle.state.proofs.Laws.Starting.{started-fresh, fresh-rank-at, fresh-count}
 use Rattle.group.specs.Events.{event}
 use Rattle.group.specs.Reaching.{Reaches, begun, next}
-use Rattle.group.proofs.Moves.{Flies, Move, Entry}
+use Rattle.group.proofs.Scenes.{Scene, scene}
+use Rattle.group.proofs.Moves.{Move, Entry}
 use Rattle.group.proofs.Laws.Following.{event-moves}
 use Rattle.group.proofs.Laws.Reached.{reached-small, reached-in-order, reached-size}
 use Rattle.group.proofs.Demands.{known-deaths-are-deaths}
-use Rattle.agreement.proofs.Living.{Truthful}
+use Rattle.agreement.proofs.Living.{Quiet, Truthful}
 
--- ---- a fresh group: all are outside with all bits set, nobody has heard or owes anybody, nothing is in flight
+-- ---- a fresh group: all are outside with a fresh triple, nobody has heard or owes anybody, nothing is in flight
 
 module _ (anc : ℕ → ℕ) (n : ℕ) (small : n ≤ 64) where
-  pub quiet : (k b x : ℕ) → Flies (freshState anc n) k b x → ⊥
-  quiet k b x h = let l = h .listed in omega (arith, fresh-count anc n)
+  pub quiet : Quiet (scene (freshState anc n))
+  quiet k b x h = let l = h .1 .listed in omega (arith, fresh-count anc n)
 
   pub all-outside : (i : ℕ) → i < n → rankAt (freshState anc n) i .phase ≡ outside
   all-outside i l = ap (λ (r : Rank). r .phase) (fresh-rank-at anc n i small l) ∙ fresh-outside anc n i
 
-  pub all-ones : (i : ℕ) → i < n → rankAt (freshState anc n) i .word ≡ allBits
-  all-ones i l = ap (λ (r : Rank). r .word) (fresh-rank-at anc n i small l) ∙ fresh-word anc n i
+  pub all-fresh : (i : ℕ) → i < n → rankAt (freshState anc n) i .triple ≡ freshTriple n
+  all-fresh i l = ap (λ (r : Rank). r .triple) (fresh-rank-at anc n i small l) ∙ fresh-triple anc n i
 
   -- a set that is empty in a fresh rank
   empty : (set : Rank → ℕ) → ((i : ℕ) → set (freshRank anc n i) ≡ 0) → (i x : ℕ) → i < n → has (set (rankAt (freshState anc n) i)) x ≡ true → ⊥
@@ -48,16 +51,16 @@ module _ (anc : ℕ → ℕ) (n : ℕ) (small : n ≤ 64) where
 
 -- ---- an accepted event of a run
 
-pub reached-truthful : (anc : ℕ → ℕ) (n : ℕ) (s : State) → Reaches anc n s → Truthful n s
+pub reached-truthful : (anc : ℕ → ℕ) (n : ℕ) (s : State) → Reaches anc n s → Truthful n (scene s)
 reached-truthful anc n s run i k l h = known-deaths-are-deaths anc n s run i l k h
 
-pub reached-moves : (anc : ℕ → ℕ) → Ancestry anc → (n : ℕ) (s : State) (ev : Event) → Reaches anc n s → event anc s ev .answer ≡ 0 → Move anc n (Entry ev) s (event anc s ev .state)
-reached-moves anc tree n s ev run z = subst (λ (m : ℕ). Move anc m (Entry ev) s (event anc s ev .state)) (reached-size anc n s run) (event-moves anc tree s ev (reached-in-order anc n s run) z)
+pub reached-moves : (anc : ℕ → ℕ) → Ancestry anc → (n : ℕ) (s : State) (ev : Event) → Reaches anc n s → event anc s ev .answer ≡ 0 → Move anc n (Entry (scene s) ev) (scene s) (scene (event anc s ev .state))
+reached-moves anc tree n s ev run z = subst (λ (m : ℕ). Move anc m (Entry (scene s) ev) (scene s) (scene (event anc s ev .state))) (reached-size anc n s run) (event-moves anc tree s ev (reached-in-order anc n s run) z)
 
 -- What holds of a fresh group and is kept by every move holds in every reached state.
-pub every-reached : (anc : ℕ → ℕ) → Ancestry anc → (n : ℕ) (I : State → Type 0) → (n ≤ 64 → I (freshState anc n)) → ((E : ℕ → ℕ → Type 0) (s s′ : State) → n ≤ 64 → Truthful n s′ → I s → Move anc n E s s′ → I s′)
-    → (s : State) → Reaches anc n s → I s
-every-reached anc tree n I first keep s (begun z) = subst I (sym (started-fresh anc n z .1)) (first (reached-small anc n (started anc n .state) (begun z) .1))
+pub every-reached : (anc : ℕ → ℕ) → Ancestry anc → (n : ℕ) (I : Scene → Type 0) → (n ≤ 64 → I (scene (freshState anc n))) → ((E : ℕ → Triple → Type 0) (s s′ : Scene) → n ≤ 64 → Truthful n s′ → I s → Move anc n E s s′ → I s′)
+    → (s : State) → Reaches anc n s → I (scene s)
+every-reached anc tree n I first keep s (begun z) = subst (λ (x : State). I (scene x)) (sym (started-fresh anc n z .1)) (first (reached-small anc n (started anc n .state) (begun z) .1))
 every-reached anc tree n I first keep s (next s′ ev run z) =
-    keep (Entry ev) s′ (event anc s′ ev .state) (reached-small anc n s′ run .1) (reached-truthful anc n (event anc s′ ev .state) (next s′ ev run z))
+    keep (Entry (scene s′) ev) (scene s′) (scene (event anc s′ ev .state)) (reached-small anc n s′ run .1) (reached-truthful anc n (event anc s′ ev .state) (next s′ ev run z))
     (every-reached anc tree n I first keep s′ run) (reached-moves anc tree n s′ ev run z)

@@ -17,17 +17,19 @@ use Rattle.sets.specs.Sets.{has, only, union, meet, minus, add, below, setOf, c
 use Rattle.tree.proofs.Laws.Rows.{same-eq}
 use Rattle.tree.specs.Calls.{andThen, movedBelow, wrongSize, same}
 use Rattle.tree.specs.Tree.{lineage, ancestors, half, flat, parent, children, row, entry, fresh, moves, sized, moved}
-use Rattle.rank.specs.Records.{becoming, combining, concluding, owing, parentOf, childrenOf, awaiting, freshRank, hearing, viewing}
-use Rattle.rank.specs.Rules.{inPhase, saying, deciding, settled, done, settling, entering, noting, raised, takingUp, lowered, takingDown, asked, takingAsk, renewing, regathering, orphaned, inheriting, bereaved, noticing}
+use Rattle.rank.specs.Records.{becoming, combining, concluding, owing, admitting, proposal, parentOf, childrenOf, awaiting, freshRank, hearing, viewing}
+use Rattle.rank.specs.Rules.{inPhase, saying, deciding, settled, done, settling, entering, noting, raised, takingUp, lowered, takingDown, asked, takingAsk, renewing, regathering, orphaned, inheriting, bereaved, noticing, acknowledging}
 use Rattle.rank.specs.Sends.{silent, reports, tells, asks, letter, letters}
-use Rattle.rank.specs.Words.{combine, outside, decided}
+use Rattle.rank.specs.declared.Triple.{Triple}
+use Rattle.rank.specs.Words.{outside, decided}
+use Rattle.rank.specs.Triples.{freshTriple, combine, closing, code}
 use Rattle.net.specs.Net.{joining, padded, without}
 use Rattle.events.specs.Events.{eventOf, namesRank, namesPlace}
 use Rattle.refusals.specs.Refusing.{wrongKind, wrongRank, noMessage, isDead, notOutside, isLiving, isLast, bothLive, lateRefusal, refusal}
 use Rattle.state.specs.Starting.{firstRank, firstRow, freshState, started}
 use Rattle.state.specs.States.{rankAt}
 use Rattle.state.specs.declared.State.{State}
-use Rattle.order.specs.Order.{proper, clauses, rankInOrder, isWithin, memberInOrder, zeroRecord, strangerInOrder, seatInOrder, seatInOrderAt, messageInOrder, zeroPlace, placeInOrder, placeInOrderAt, inOrder}
+use Rattle.order.specs.Order.{proper, tripleWithin, isZero, clauses, rankInOrder, isWithin, memberInOrder, zeroRecord, strangerInOrder, seatInOrder, seatInOrderAt, messageInOrder, zeroPlace, placeInOrder, placeInOrderAt, inOrder}
 use Rattle.plans.specs.Plans.{subject, refusing, accepting, afterwards, fitting, delivered, acting, planned}
 use Rattle.group.specs.Events.{posted, applied, refused, carried, subjectOf, planOf, stepped, event}
 use Rattle.group.specs.Reaching.{Reaches, begun, next}
@@ -40,11 +42,11 @@ use Rattle.schedule.proofs.Laws.Steps.{run-steps}
 use Rattle.schedule.specs.Samples.{then, three}
 use Rattle.schedule.proofs.Reaching.{run-reaches}
 use Rattle.agreement.specs.Progress.{Lives, Quiet, AllEntered, AllDeathsKnown, AllDecided}
-use Rattle.agreement.specs.Agreement.{isEntry, hasEntered, wordOf}
-use Rattle.agreement.specs.Witnesses.{mourned, absent, busy, untold, bereft, slice, runs, ended, isQuiet, allEntered, allDeathsKnown, allDecided, shown, LivesWith, DiedWith, witnesses}
+use Rattle.agreement.specs.Agreement.{isEntry, hasEntered, proposalOf}
+use Rattle.agreement.specs.Witnesses.{mourned, absent, busy, untold, bereft, late, since, unheard, slice, runs, ended, isQuiet, allEntered, allDeathsKnown, allDecided, shown, knows, LivesWith, DiedWith, witnesses}
 
 pub the-tests-pass : all witnesses ≡ true
-unfolding has only union meet minus add below setOf count largest smallest listed every all andThen movedBelow wrongSize same lineage ancestors half flat parent children row entry fresh moves sized moved proper clauses rankInOrder becoming combining concluding owing parentOf childrenOf awaiting freshRank hearing viewing inPhase saying deciding settled done settling entering noting raised takingUp lowered takingDown asked takingAsk renewing regathering orphaned inheriting bereaved noticing silent reports tells asks letter letters combine subject refusing accepting afterwards fitting delivered acting planned posted joining applied refused carried subjectOf planOf stepped padded without isWithin memberInOrder zeroRecord strangerInOrder seatInOrder seatInOrderAt messageInOrder zeroPlace placeInOrder placeInOrderAt inOrder event namesRank namesPlace wrongKind wrongRank noMessage isDead notOutside isLiving isLast bothLive lateRefusal refusal firstRank firstRow freshState started byteAt shortAt numberAt eventAt eventsIn wrongMark wrongVersion broken header numberOf written told stepping steppedOn steppedRun refusedRun then file three mourned absent busy untold bereft slice runs ended isQuiet allEntered allDeathsKnown allDecided shown witnesses
+unfolding has only union meet minus add below setOf count largest smallest listed every all andThen movedBelow wrongSize same lineage ancestors half flat parent children row entry fresh moves sized moved proper tripleWithin isZero clauses rankInOrder becoming combining concluding owing admitting proposal parentOf childrenOf awaiting freshRank hearing viewing inPhase saying deciding settled done settling entering noting raised takingUp lowered takingDown asked takingAsk renewing regathering orphaned inheriting bereaved noticing acknowledging silent reports tells asks letter letters freshTriple combine closing code subject refusing accepting afterwards fitting delivered acting planned posted joining applied refused carried subjectOf planOf stepped padded without isWithin memberInOrder zeroRecord strangerInOrder seatInOrder seatInOrderAt messageInOrder zeroPlace placeInOrder placeInOrderAt inOrder event namesRank namesPlace wrongKind wrongRank noMessage isDead notOutside isLiving isLast bothLive lateRefusal refusal firstRank firstRow freshState started byteAt shortAt numberAt eventAt eventsIn wrongMark wrongVersion broken header numberOf written told stepping steppedOn steppedRun refusedRun then file three mourned absent busy untold bereft late since unheard slice runs ended isQuiet allEntered allDeathsKnown allDecided shown knows witnesses
 the-tests-pass = refl
 
 -- ---- from the tests to the words
@@ -87,19 +89,19 @@ undecided-end n s t d =
     go i l (inr h) = or-r (has (s .group .dead) i) (eqb (rankAt s i .phase) decided) (eq-eqb (rankAt s i .phase) decided (d i (l, h)))
 
 -- what is shown of a rank at its place in the list
-shown-at : (s : State) (i : ℕ) (l : List ℕ) → same (shown s i) l ≡ true → (cond (has (s .group .dead) i) 0 1 ≡ getD l 0 0) × (rankAt s i .phase ≡ getD l 1 0) × (rankAt s i .result ≡ getD l 2 0)
+shown-at : (s : State) (i : ℕ) (l : List ℕ) → same (shown s i) l ≡ true → (cond (has (s .group .dead) i) 0 1 ≡ getD l 0 0) × (rankAt s i .phase ≡ getD l 1 0) × (rankAt s i .result .word ≡ getD l 2 0) × (code (rankAt s i .result) ≡ getD l 3 0)
 unfolding shown
-shown-at s i l t = let e : shown s i ≡ l = same-eq (shown s i) l t in (ap (λ (k : List ℕ). getD k 0 0) e, ap (λ (k : List ℕ). getD k 1 0) e, ap (λ (k : List ℕ). getD k 2 0) e)
+shown-at s i l t = let e : shown s i ≡ l = same-eq (shown s i) l t in (ap (λ (k : List ℕ). getD k 0 0) e, ap (λ (k : List ℕ). getD k 1 0) e, ap (λ (k : List ℕ). getD k 2 0) e, ap (λ (k : List ℕ). getD k 3 0) e)
 
-lives-with : (n : ℕ) (s : State) (i w : ℕ) → i < n → same (shown s i) (1 ∷ 3 ∷ w ∷ []) ≡ true → LivesWith n s i w
-lives-with n s i w l t = let h = shown-at s i (1 ∷ 3 ∷ w ∷ []) t in (((l, alive (has (s .group .dead) i) (h .0)), h .1), h .2)
+lives-with : (n : ℕ) (s : State) (i w c : ℕ) → i < n → same (shown s i) (1 ∷ 3 ∷ w ∷ c ∷ []) ≡ true → LivesWith n s i w c
+lives-with n s i w c l t = let h = shown-at s i (1 ∷ 3 ∷ w ∷ c ∷ []) t in (((l, alive (has (s .group .dead) i) (h .0)), h .1), h .2, h .3)
   where
     alive : (b : Bool) → _≡_ {A = ℕ} (cond b 0 1) 1 → b ≡ false
     alive true e = absurd (omega arith)
     alive false e = refl
 
-died-with : (n : ℕ) (s : State) (i w : ℕ) → i < n → same (shown s i) (0 ∷ 3 ∷ w ∷ []) ≡ true → DiedWith n s i w
-died-with n s i w l t = let h = shown-at s i (0 ∷ 3 ∷ w ∷ []) t in (l, died (has (s .group .dead) i) (h .0), h .1, h .2)
+died-with : (n : ℕ) (s : State) (i w c : ℕ) → i < n → same (shown s i) (0 ∷ 3 ∷ w ∷ c ∷ []) ≡ true → DiedWith n s i w c
+died-with n s i w c l t = let h = shown-at s i (0 ∷ 3 ∷ w ∷ c ∷ []) t in (l, died (has (s .group .dead) i) (h .0), h .1, h .2, h .3)
   where
     died : (b : Bool) → _≡_ {A = ℕ} (cond b 0 1) 0 → b ≡ true
     died true e = refl
@@ -127,16 +129,25 @@ Tests =
     × (allEntered 2 (ended untold) ≡ true)
     × (not (allDecided 2 (ended untold)) ≡ true)
     × (runs three ≡ true)
-    × (same (shown (ended three) 0) (0 ∷ 3 ∷ 4 ∷ []) ≡ true)
-    × (same (shown (ended three) 1) (1 ∷ 3 ∷ 6 ∷ []) ≡ true)
-    × (same (shown (ended three) 2) (1 ∷ 3 ∷ 6 ∷ []) ≡ true)
+    × (same (shown (ended three) 0) (0 ∷ 3 ∷ 4 ∷ 0 ∷ []) ≡ true)
+    × (same (shown (ended three) 1) (1 ∷ 3 ∷ 6 ∷ 1 ∷ []) ≡ true)
+    × (same (shown (ended three) 2) (1 ∷ 3 ∷ 6 ∷ 1 ∷ []) ≡ true)
     × (runs bereft ≡ true)
-    × (same (shown (ended bereft) 0) (0 ∷ 3 ∷ 8 ∷ []) ≡ true)
-    × (same (shown (ended bereft) 1) (0 ∷ 3 ∷ 12 ∷ []) ≡ true)
-    × (same (shown (ended bereft) 2) (1 ∷ 3 ∷ 14 ∷ []) ≡ true)
-    × (same (shown (ended bereft) 3) (1 ∷ 3 ∷ 14 ∷ []) ≡ true)
+    × (same (shown (ended bereft) 0) (0 ∷ 3 ∷ 8 ∷ 0 ∷ []) ≡ true)
+    × (same (shown (ended bereft) 1) (0 ∷ 3 ∷ 12 ∷ 1 ∷ []) ≡ true)
+    × (same (shown (ended bereft) 2) (1 ∷ 3 ∷ 14 ∷ 1 ∷ []) ≡ true)
+    × (same (shown (ended bereft) 3) (1 ∷ 3 ∷ 14 ∷ 1 ∷ []) ≡ true)
     × (eqb (started flat 1 .answer) 0 ≡ true)
     × (eqb (event flat (started flat 1 .state) (eventOf 1 0 9) .answer) 0 ≡ true)
+    × (runs late ≡ true)
+    × (same (shown (ended late) 0) (1 ∷ 3 ∷ 5 ∷ 1 ∷ []) ≡ true)
+    × (same (knows (ended late) 0) (2 ∷ 0 ∷ 2 ∷ []) ≡ true)
+    × (runs since ≡ true)
+    × (same (shown (ended since) 0) (1 ∷ 3 ∷ 5 ∷ 0 ∷ []) ≡ true)
+    × (same (knows (ended since) 0) (2 ∷ 2 ∷ 6 ∷ []) ≡ true)
+    × (runs unheard ≡ true)
+    × (same (shown (ended unheard) 1) (1 ∷ 3 ∷ 4 ∷ 0 ∷ []) ≡ true)
+    × (same (knows (ended unheard) 1) (0 ∷ 0 ∷ 4 ∷ []) ≡ true)
 
 tests : Tests
 unfolding witnesses
@@ -169,7 +180,16 @@ tests =
     let t25 = all-tail _ _ t24 in
     let t26 = all-tail _ _ t25 in
     let t27 = all-tail _ _ t26 in
-    (all-head _ _ t0, all-head _ _ t1, all-head _ _ t2, all-head _ _ t3, all-head _ _ t4, all-head _ _ t5, all-head _ _ t6, all-head _ _ t7, all-head _ _ t8, all-head _ _ t9, all-head _ _ t10, all-head _ _ t11, all-head _ _ t12, all-head _ _ t13, all-head _ _ t14, all-head _ _ t15, all-head _ _ t16, all-head _ _ t17, all-head _ _ t18, all-head _ _ t19, all-head _ _ t20, all-head _ _ t21, all-head _ _ t22, all-head _ _ t23, all-head _ _ t24, all-head _ _ t25, all-head _ _ t26, all-head _ _ t27)
+    let t28 = all-tail _ _ t27 in
+    let t29 = all-tail _ _ t28 in
+    let t30 = all-tail _ _ t29 in
+    let t31 = all-tail _ _ t30 in
+    let t32 = all-tail _ _ t31 in
+    let t33 = all-tail _ _ t32 in
+    let t34 = all-tail _ _ t33 in
+    let t35 = all-tail _ _ t34 in
+    let t36 = all-tail _ _ t35 in
+    (all-head _ _ t0, all-head _ _ t1, all-head _ _ t2, all-head _ _ t3, all-head _ _ t4, all-head _ _ t5, all-head _ _ t6, all-head _ _ t7, all-head _ _ t8, all-head _ _ t9, all-head _ _ t10, all-head _ _ t11, all-head _ _ t12, all-head _ _ t13, all-head _ _ t14, all-head _ _ t15, all-head _ _ t16, all-head _ _ t17, all-head _ _ t18, all-head _ _ t19, all-head _ _ t20, all-head _ _ t21, all-head _ _ t22, all-head _ _ t23, all-head _ _ t24, all-head _ _ t25, all-head _ _ t26, all-head _ _ t27, all-head _ _ t28, all-head _ _ t29, all-head _ _ t30, all-head _ _ t31, all-head _ _ t32, all-head _ _ t33, all-head _ _ t34, all-head _ _ t35, all-head _ _ t36)
 
 size-mourned : byteAt mourned 5 ≡ 3
 unfolding byteAt mourned then file
@@ -194,6 +214,18 @@ size-three = refl
 size-bereft : byteAt bereft 5 ≡ 4
 unfolding byteAt bereft then file
 size-bereft = refl
+
+size-late : byteAt late 5 ≡ 2
+unfolding byteAt late then file
+size-late = refl
+
+size-since : byteAt since 5 ≡ 3
+unfolding byteAt since then file
+size-since = refl
+
+size-unheard : byteAt unheard 5 ≡ 3
+unfolding byteAt unheard then file
+size-unheard = refl
 
 -- ---- the claim is not empty, and each premise is needed
 
@@ -228,37 +260,62 @@ notice-is-needed h =
 -- ---- the agreement, and why it speaks of living ranks
 
 -- Document 01's example: rank 0 decided 4 and died, and the living hold 6.
-pub the-living-hold-6 : Reaches flat 3 (ended three) × DiedWith 3 (ended three) 0 4 × LivesWith 3 (ended three) 1 6 × LivesWith 3 (ended three) 2 6
+pub the-living-hold-6 : Reaches flat 3 (ended three) × DiedWith 3 (ended three) 0 4 0 × LivesWith 3 (ended three) 1 6 1 × LivesWith 3 (ended three) 2 6 1
 the-living-hold-6 = (
   subst (λ (n : ℕ). Reaches flat n (ended three)) size-three (reached-end three (tests .17)),
-  died-with 3 (ended three) 0 4 (omega arith) (tests .18),
-  lives-with 3 (ended three) 1 6 (omega arith) (tests .19),
-  lives-with 3 (ended three) 2 6 (omega arith) (tests .20),
+  died-with 3 (ended three) 0 4 0 (omega arith) (tests .18),
+  lives-with 3 (ended three) 1 6 1 (omega arith) (tests .19),
+  lives-with 3 (ended three) 2 6 1 (omega arith) (tests .20),
 )
 
 -- Two roots lost one after the other: each had decided for itself, and the living hold 14.
-pub two-roots-lost : Reaches flat 4 (ended bereft) × DiedWith 4 (ended bereft) 0 8 × DiedWith 4 (ended bereft) 1 12 × LivesWith 4 (ended bereft) 2 14 × LivesWith 4 (ended bereft) 3 14
+pub two-roots-lost : Reaches flat 4 (ended bereft) × DiedWith 4 (ended bereft) 0 8 0 × DiedWith 4 (ended bereft) 1 12 1 × LivesWith 4 (ended bereft) 2 14 1 × LivesWith 4 (ended bereft) 3 14 1
 two-roots-lost = (
   subst (λ (n : ℕ). Reaches flat n (ended bereft)) size-bereft (reached-end bereft (tests .21)),
-  died-with 4 (ended bereft) 0 8 (omega arith) (tests .22),
-  died-with 4 (ended bereft) 1 12 (omega arith) (tests .23),
-  lives-with 4 (ended bereft) 2 14 (omega arith) (tests .24),
-  lives-with 4 (ended bereft) 3 14 (omega arith) (tests .25),
+  died-with 4 (ended bereft) 0 8 0 (omega arith) (tests .22),
+  died-with 4 (ended bereft) 1 12 1 (omega arith) (tests .23),
+  lives-with 4 (ended bereft) 2 14 1 (omega arith) (tests .24),
+  lives-with 4 (ended bereft) 3 14 1 (omega arith) (tests .25),
 )
 
 -- Without "living" the same result is not to be had: a dead rank may hold another.
 pub living-is-needed : ((n : ℕ) (s : State) → Reaches flat n s → (i j : ℕ) → i < n → j < n → rankAt s i .phase ≡ decided → rankAt s j .phase ≡ decided → rankAt s i .result ≡ rankAt s j .result) → ⊥
 living-is-needed h =
     let t = the-living-hold-6 in
-    let e : rankAt (ended three) 0 .result ≡ rankAt (ended three) 1 .result = h 3 (ended three) (t .0) 0 1 (omega arith) (omega arith) (t .1 .2) (t .2 .0 .1) in
-    let d : rankAt (ended three) 0 .result ≡ 4 = t .1 .3 in
-    let l : rankAt (ended three) 1 .result ≡ 6 = t .2 .1 in
+    let e : rankAt (ended three) 0 .result .word ≡ rankAt (ended three) 1 .result .word = ap (λ (x : Triple). x .word) (h 3 (ended three) (t .0) 0 1 (omega arith) (omega arith) (t .1 .2) (t .2 .0 .1)) in
+    let d : rankAt (ended three) 0 .result .word ≡ 4 = t .1 .3 in
+    let l : rankAt (ended three) 1 .result .word ≡ 6 = t .2 .1 in
     omega arith
 
--- A rank alone that enters 9: the run has its entry, and its word.
+-- ---- the root's marks, the one addition
+
+-- what a rank knows at its place in the list
+knows-at : (s : State) (i : ℕ) (l : List ℕ) → same (knows s i) l ≡ true → (rankAt s i .result .known ≡ getD l 0 0) × (rankAt s i .triple .known ≡ getD l 1 0) × (rankAt s i .marks ≡ getD l 2 0)
+unfolding knows
+knows-at s i l t = let e : knows s i ≡ l = same-eq (knows s i) l t in (ap (λ (k : List ℕ). getD k 0 0) e, ap (λ (k : List ℕ). getD k 1 0) e, ap (λ (k : List ℕ). getD k 2 0) e)
+
+-- It can't be left out: the verdict knows of rank 1's death (the set 2), which nobody proposed, and so has code 1.
+pub the-addition-is-needed : Reaches flat 2 (ended late) × LivesWith 2 (ended late) 0 5 1 × (rankAt (ended late) 0 .result .known ≡ 2) × (rankAt (ended late) 0 .triple .known ≡ 0)
+the-addition-is-needed =
+    let k = knows-at (ended late) 0 (2 ∷ 0 ∷ 2 ∷ []) (tests .30) in
+    (subst (λ (n : ℕ). Reaches flat n (ended late)) size-late (reached-end late (tests .28)), lives-with 2 (ended late) 0 5 1 (omega arith) (tests .29), k .0, k .1)
+
+-- It is not what the root has marked by now: the verdict knows of rank 1's death, and the root of rank 2's too (the set 6).
+pub the-addition-is-not-the-present-marks : Reaches flat 3 (ended since) × LivesWith 3 (ended since) 0 5 0 × (rankAt (ended since) 0 .result .known ≡ 2) × (rankAt (ended since) 0 .marks ≡ 6)
+the-addition-is-not-the-present-marks =
+    let k = knows-at (ended since) 0 (2 ∷ 2 ∷ 6 ∷ []) (tests .33) in
+    (subst (λ (n : ℕ). Reaches flat n (ended since)) size-since (reached-end since (tests .31)), lives-with 3 (ended since) 0 5 0 (omega arith) (tests .32), k .0, k .2)
+
+-- What the rule does not do: rank 1 knew of rank 2's death (the set 4) when it reported, nobody had acknowledged it, and the code is 0.
+pub a-death-that-the-verdict-does-not-know : Reaches flat 3 (ended unheard) × LivesWith 3 (ended unheard) 1 4 0 × (rankAt (ended unheard) 1 .result .known ≡ 0) × (rankAt (ended unheard) 1 .marks ≡ 4)
+a-death-that-the-verdict-does-not-know =
+    let k = knows-at (ended unheard) 1 (0 ∷ 0 ∷ 4 ∷ []) (tests .36) in
+    (subst (λ (n : ℕ). Reaches flat n (ended unheard)) size-unheard (reached-end unheard (tests .34)), lives-with 3 (ended unheard) 1 4 0 (omega arith) (tests .35), k .0, k .2)
+
+-- A rank alone that enters 9: the run has its entry, and what it proposed.
 pub alone : Reaches flat 1 (event flat (started flat 1 .state) (eventOf 1 0 9) .state)
 alone = next (started flat 1 .state) (eventOf 1 0 9) (begun (eqb-true (started flat 1 .answer) 0 (tests .26))) (eqb-true (event flat (started flat 1 .state) (eventOf 1 0 9) .answer) 0 (tests .27))
 
-pub a-word-is-entered : (hasEntered flat 1 (event flat (started flat 1 .state) (eventOf 1 0 9) .state) alone 0 ≡ true) × (wordOf flat 1 (event flat (started flat 1 .state) (eventOf 1 0 9) .state) alone 0 ≡ 9)
-unfolding hasEntered wordOf isEntry alone
+pub a-word-is-entered : (hasEntered flat 1 (event flat (started flat 1 .state) (eventOf 1 0 9) .state) alone 0 ≡ true) × (proposalOf flat 1 (event flat (started flat 1 .state) (eventOf 1 0 9) .state) alone 0 .word ≡ 9)
+unfolding hasEntered proposalOf proposal isEntry alone
 a-word-is-entered = (refl, refl)

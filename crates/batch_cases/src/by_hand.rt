@@ -2,6 +2,7 @@
 // result, 5 the last message, 6 the last entry of the last table. 7 makes the size a wrong one. Any other number changes nothing.
 use rank::Message;
 use rank::Rank;
+use rank::Triple;
 use state::Group;
 use state::State;
 
@@ -14,7 +15,9 @@ fn ranks_after(ranks: [Rank; 64], hand: u32) -> [Rank; 64] {
     }
     if hand == 4 {
         let mut last = ranks[63];
-        last.result = 1;
+        let mut result = last.result;
+        result.word = 1;
+        last.result = result;
         after[63] = last;
     }
     after
@@ -27,7 +30,7 @@ fn net_after(net: [Message; 128], hand: u32) -> [Message; 128] {
             kind: 4,
             from: 0,
             to: 1,
-            word: 0,
+            triple: Triple::zero(),
         };
     }
     after

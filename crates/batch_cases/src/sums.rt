@@ -4,6 +4,7 @@ use super::script::number;
 use super::script::plus;
 use rank::Message;
 use rank::Rank;
+use rank::Triple;
 use state::State;
 
 pub struct Sums {
@@ -44,14 +45,28 @@ fn take_long(t: Sums, x: u64, y: u64) -> Sums {
     take(take(t, low(x), low(y)), high(x), high(y))
 }
 
+fn triple(t: Sums, x: Triple, y: Triple) -> Sums {
+    let word = take(t, x.word, y.word);
+    let known = take_long(word, x.known, y.known);
+    take_long(known, x.acknowledged, y.acknowledged)
+}
+
+fn triples(t: Sums, x: Rank, y: Rank) -> Sums {
+    let x_triple = x.triple;
+    let y_triple = y.triple;
+    let x_result = x.result;
+    let y_result = y.result;
+    triple(triple(t, x_triple, y_triple), x_result, y_result)
+}
+
 fn rank(t: Sums, x: Rank, y: Rank) -> Sums {
     let phase = take(t, x.phase as u32, y.phase as u32);
     let marks = take_long(phase, x.marks, y.marks);
-    let heard = take_long(marks, x.heard, y.heard);
+    let acknowledged = take_long(marks, x.acknowledged, y.acknowledged);
+    let heard = take_long(acknowledged, x.heard, y.heard);
     let awaited = take_long(heard, x.awaited, y.awaited);
     let owed = take_long(awaited, x.owed, y.owed);
-    let word = take(owed, x.word, y.word);
-    take(word, x.result, y.result)
+    triples(owed, x, y)
 }
 
 fn ranks(before: Sums, x: [Rank; 64], y: [Rank; 64]) -> Sums {
@@ -68,7 +83,9 @@ fn message(t: Sums, x: Message, y: Message) -> Sums {
     let kind = take(t, x.kind as u32, y.kind as u32);
     let from = take(kind, x.from as u32, y.from as u32);
     let to = take(from, x.to as u32, y.to as u32);
-    take(to, x.word, y.word)
+    let x_triple = x.triple;
+    let y_triple = y.triple;
+    triple(to, x_triple, y_triple)
 }
 
 fn messages(before: Sums, x: [Message; 128], y: [Message; 128]) -> Sums {

@@ -45,7 +45,7 @@ cases =
     ∷ leaves example 0
     (0 ∷ 1 ∷ 0 ∷ 0 ∷ 0 ∷ 0 ∷ 0 ∷ 0 ∷ 0 ∷ 0 ∷ 1 ∷ 0 ∷ 0 ∷ 1 ∷ 0 ∷ 0 ∷ 0 ∷ 0
     ∷ 0 ∷ 1 ∷ 1 ∷ 0 ∷ 0 ∷ 0 ∷ 0 ∷ 1 ∷ 1 ∷ 0 ∷ 1 ∷ 0 ∷ 0 ∷ 1 ∷ 0 ∷ 8 ∷ 0 ∷ 0 ∷ 77 ∷ 77 ∷ 77 ∷ [])
-    ∷ eqb (rankAt (example .state) 2 .result) 6
+    ∷ eqb (rankAt (example .state) 2 .result .word) 6
     -- a refused start: each event is answered 1; a state out of order: each is answered 2
     ∷ leaves (batch flat (1 ∷ 0 ∷ 9 ∷ 9 ∷ 9 ∷ 9 ∷ []) (replicate 6 77) emptyState) 0 (1 ∷ 0 ∷ 0 ∷ 1 ∷ 0 ∷ 0 ∷ [])
     ∷ leaves (batch flat (1 ∷ 0 ∷ 9 ∷ 9 ∷ 9 ∷ 9 ∷ []) (replicate 6 77) miscounted) 0 (2 ∷ 0 ∷ 0 ∷ 2 ∷ 0 ∷ 0 ∷ [])

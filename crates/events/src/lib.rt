@@ -12,6 +12,8 @@ pub const NOTICES: u32 = 4;
 
 pub const LOSES: u32 = 5;
 
+pub const ACKNOWLEDGES: u32 = 6;
+
 pub struct Event {
     pub kind: u32,
     pub a: u32,
@@ -21,7 +23,7 @@ pub struct Event {
 pub fn names_rank(kind: u32) -> bool
     ensures { λ r. ⌜ r ≡ namesRank kind ⌝ }
 {
-    (kind == ENTERS) | (kind == CRASHES) | (kind == NOTICES)
+    (kind == ENTERS) | (kind == CRASHES) | (kind == NOTICES) | (kind == ACKNOWLEDGES)
 }
 
 pub fn names_place(kind: u32) -> bool

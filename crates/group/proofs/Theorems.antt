@@ -1,9 +1,11 @@
 -- The promises of the group layer, each under a name that says it: what a caller of start and event sees, over the states that a group can be
 -- in. Over any ancestor sets. Assumes nothing.
-use mathlib.Core.Path.{_≡_, refl, ap, _∙_}
+use mathlib.Core.Path.{_≡_, refl, sym, ap, subst, _∙_}
 use mathlib.Core.Bool.{true, false, cond, _||_}
 use mathlib.Core.List.{_++_}
+use mathlib.Core.Logic.{inr}
 use Prim.Native.Nat.{ℕ, _≤_, _<_}
+use native.Mathlib.Omega.{arith}
 use lib.Dec.{eqb}
 use lib.ListN.{length}
 use Rattle.sets.specs.Sets.{has, add}
@@ -11,11 +13,16 @@ use Rattle.sets.proofs.Laws.Bools.{clash}
 use Rattle.tree.specs.Tree.{moved, nobody}
 use Rattle.tree.specs.Calls.{movedBelow}
 use Rattle.tree.specs.Relations.{Ancestry}
+use Rattle.rank.specs.declared.Acted.{Acted}
 use Rattle.rank.specs.Words.{ask}
+use Rattle.rank.specs.Records.{admitting}
+use Rattle.rank.specs.Rules.{acknowledging}
+use Rattle.rank.proofs.Laws.Knowing.{acknowledge-is}
+use Rattle.rank.proofs.Laws.Letters.{letters-silent}
 use Rattle.net.specs.Net.{without}
 use Rattle.events.specs.declared.Event.{Event}
 use Rattle.events.specs.Events.{eventOf, crashes, namesPlace}
-use Rattle.events.proofs.Laws.Naming.{names-a-place}
+use Rattle.events.proofs.Laws.Naming.{names-a-rank, names-a-place}
 use Rattle.state.specs.declared.State.{State}
 use Rattle.state.specs.States.{rankAt, rowAt, placeAt, flying}
 use Rattle.state.specs.Starting.{freshState, started}
@@ -23,6 +30,7 @@ use Rattle.order.specs.Between.{InOrder}
 use Rattle.order.proofs.Laws.Fresh.{fresh-in-order}
 use Rattle.plans.proofs.Laws.Cases.{is-dropped}
 use Rattle.plans.proofs.Laws.Knowing as Knowing
+use Rattle.plans.proofs.Laws.Planning.{act-acknowledges}
 use Rattle.group.specs.Events.{refused, event}
 use Rattle.group.specs.Changes.{named, doing, sends}
 use Rattle.group.specs.Reaching.{Reaches}
@@ -30,7 +38,7 @@ use Rattle.group.proofs.Laws.Events.{event-on-none, event-refused}
 use Rattle.group.proofs.Laws.Moving.{event-keeps-order, event-size, others-stay, word-or-ask}
 use Rattle.group.proofs.Laws.Following.{each-rank}
 use Rattle.group.proofs.Laws.Reached.{reached-in-order, reached-size}
-use Rattle.group.proofs.Laws.Changing.{subject-is, record-is, row-is, dead-is, flying-is, sent-is, moved-is, named-receiver}
+use Rattle.group.proofs.Laws.Changing.{subject-is, record-is, row-is, dead-is, flying-is, sent-is, moved-is, named-rank, named-receiver}
 use Rattle.group.proofs.Laws.Answering.{notice-answers, ask-answers}
 
 -- ---- order
@@ -109,6 +117,30 @@ module _ (anc : ℕ → ℕ) (n : ℕ) (s : State) (run : Reaches anc n s) (a b 
       let to-is : named s (eventOf 2 a b) ≡ placeAt s a .to = named-receiver s (eventOf 2 a b) (names-a-place 2 refl) in
       moved-is anc s (reached-in-order anc n s run) (eventOf 2 a b) z
       ∙ Knowing.dropped-calm anc _ _ _ _ _ _ _ refl (is-dropped (s .group .dead) (named s (eventOf 2 a b)) (placeAt s a) (rankAt s (named s (eventOf 2 a b))) (rw to-is t)) .1
+
+-- ---- an acknowledgement
+
+module _ (anc : ℕ → ℕ) (n : ℕ) (s : State) (run : Reaches anc n s) (a b : ℕ) (z : event anc s (eventOf 6 a b) .answer ≡ 0) where
+  acknowledges : doing anc s (eventOf 6 a b) ≡ acknowledging anc (s .group .n) a (rankAt s a)
+  unfolding doing
+  acknowledges =
+      sym (act-acknowledges anc _ _ (eventOf 6 a b) _ _ _ _ _ (λ e. omega arith) (λ e. omega arith) (λ e. omega arith) refl refl)
+      ∙ ap (λ (i : ℕ). acknowledging anc (s .group .n) i (rankAt s i)) (named-rank s (eventOf 6 a b) (names-a-rank 6 (inr (inr (inr refl))) .1))
+
+  -- Request 2026-08: rank a's acknowledged set becomes its marks, and the rest of its record stays.
+  pub an-acknowledgement-is-of-the-marks : rankAt (event anc s (eventOf 6 a b) .state) a ≡ admitting (rankAt s a .marks) (rankAt s a)
+  an-acknowledgement-is-of-the-marks =
+      let o = reached-in-order anc n s run in
+      let is : named s (eventOf 6 a b) ≡ a = named-rank s (eventOf 6 a b) (names-a-rank 6 (inr (inr (inr refl))) .1) in
+      subst (λ (i : ℕ). rankAt (event anc s (eventOf 6 a b) .state) i ≡ doing anc s (eventOf 6 a b) .rank) is (record-is anc s o (eventOf 6 a b) z)
+      ∙ ap (λ (x : Acted). x .rank) acknowledges ∙ acknowledge-is anc (s .group .n) a (rankAt s a) .0
+
+  -- It sends nothing.
+  pub an-acknowledgement-sends-nothing : event anc s (eventOf 6 a b) .sent ≡ 0
+  unfolding sends
+  an-acknowledgement-sends-nothing =
+      let says = acknowledge-is anc (s .group .n) a (rankAt s a) in
+      sent-is anc s (reached-in-order anc n s run) (eventOf 6 a b) z ∙ rw (acknowledges, says .1, says .2, letters-silent (named s (eventOf 6 a b)))
 
 -- ---- what any event leaves of a rank, accepted or not
 

@@ -24,7 +24,7 @@ examples =
     -- 1 to 7
     Tree.examples
     -- 8. n=1, enter 9: decided 9, sent 0; crash: 9.
-    ++ (answers alone 0 0 ∷ eqb (rankAt (alone .state) 0 .phase) decided ∷ eqb (rankAt (alone .state) 0 .result) 9
+    ++ (answers alone 0 0 ∷ eqb (rankAt (alone .state) 0 .phase) decided ∷ eqb (rankAt (alone .state) 0 .result .word) 9
     ∷ eqb (event flat (alone .state) (eventOf 3 0 0) .answer) 9
     -- 9. Sizes 0 and 65: 1; 64 accepted.
     ∷ eqb (started flat 0 .answer) 1 ∷ eqb (started flat 65 .answer) 1 ∷ eqb (started flat 64 .answer) 0

@@ -69,7 +69,7 @@ fn plan_of(s: State, ev: Event) -> Plan
 }
 
 // The list after a plan: a message has left, if one leaves, and two sends have joined.
-pub fn post(net: &mut [u64; 128], count: u8, place: u32, me: u8, p: Plan) -> Forwarded
+pub fn post(net: &mut [u64; 384], count: u8, place: u32, me: u8, p: Plan) -> Forwarded
     requires { ⌜ messagesOf (now net) ≡ padded (take count (messagesOf (now net))) ⌝ }
     requires { ⌜ count ≤ 128 ⌝ }
     requires { ⌜ (p .leaves ≡ true → place < count) ⌝ }

@@ -2,10 +2,12 @@
 // before it: small letters act (obey.rt), capitals print (show.rt).
 use super::show::echo;
 
-// Whether the reader is in braces, whether it is in a number, and the last five numbers.
+// Whether the reader is in braces, whether it is in a number, and the last seven numbers.
 pub struct Reader {
     pub hidden: bool,
     pub inside: bool,
+    pub t: u32,
+    pub u: u32,
     pub v: u32,
     pub w: u32,
     pub x: u32,
@@ -24,6 +26,8 @@ pub fn begin() -> Reader {
     Reader {
         hidden: false,
         inside: false,
+        t: 0,
+        u: 0,
         v: 0,
         w: 0,
         x: 0,
@@ -63,6 +67,8 @@ fn longer(n: u32, b: u8) -> u32 {
 fn digit(r: Reader, b: u8) -> Reader {
     let mut t = r;
     if !r.inside {
+        t.t = r.u;
+        t.u = r.v;
         t.v = r.w;
         t.w = r.x;
         t.x = r.y;

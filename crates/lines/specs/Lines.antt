@@ -7,6 +7,7 @@ use lib.ListN.{getD}
 use Rattle.sets.specs.Sets.{has}
 use Rattle.rank.specs.declared.Rank.{Rank}
 use Rattle.rank.specs.Words.{decided}
+use Rattle.rank.specs.Triples.{code}
 use Rattle.text.specs.Text.{decimal, field, feed}
 
 -- First line, after the letters agr: version, n, events.
@@ -22,14 +23,14 @@ eventLine answers k =
 unfoldable pub living : ℕ → ℕ → ℕ
 living dead i = cond (has dead i) 0 1
 
--- The result, with `-` unless decided.
-unfoldable pub resultField : ℕ → ℕ → List ℕ
-resultField phase result = cond (eqb phase decided) (field result) (32 ∷ 45 ∷ [])
+-- A number of the verdict, with `-` unless decided.
+unfoldable pub verdictField : ℕ → ℕ → List ℕ
+verdictField phase number = cond (eqb phase decided) (field number) (32 ∷ 45 ∷ [])
 
--- Rank lines, after the letter r: rank, 1 if living, phase, result.
+-- Rank lines, after the letter r: rank, 1 if living, phase, result, and the code as a fifth number.
 unfoldable pub rankLine : ℕ → ℕ → Rank → List ℕ
 rankLine dead i r =
-    (114 ∷ []) ++ (field i ++ (field (living dead i) ++ (field (r .phase) ++ (resultField (r .phase) (r .result) ++ feed))))
+    (114 ∷ []) ++ (field i ++ (field (living dead i) ++ (field (r .phase) ++ (verdictField (r .phase) (r .result .word) ++ (verdictField (r .phase) (code (r .result)) ++ feed)))))
 
 -- Last, after the letter m: messages in flight.
 unfoldable pub lastLine : ℕ → List ℕ

@@ -1,6 +1,7 @@
 // The lines of a listing: numbers are decimal without leading zeros, fields one space apart, and each line ends in one line feed. Each
 // function writes from a place of a lent buffer on and answers the place after its last byte.
 use rank::Rank;
+use rank::Triple;
 use text::put_byte;
 use text::put_end;
 use text::put_field;
@@ -11,8 +12,9 @@ ghost use mathlib.Core.Path.{_≡_};
 ghost use mathlib.Core.List.{_++_};
 ghost use Prim.Native.Nat.{_+_, _*_, _<_, _≤_};
 ghost use lib.ListN.{length};
+ghost use Rattle.rank.specs.Triples.{code};
 ghost use Rattle.text.specs.Text.{Wrote, feed, field};
-ghost use Rattle.lines.specs.Lines.{eventLine, firstLine, lastLine, living, rankLine, refusedLine, resultField};
+ghost use Rattle.lines.specs.Lines.{eventLine, firstLine, lastLine, living, rankLine, refusedLine, verdictField};
 
 // First line: version, n, events.
 pub fn put_first(text: &mut [u8], n: u8, events: u32) -> usize
@@ -41,25 +43,26 @@ pub fn put_event(text: &mut [u8], at: usize, answers: &[u32], k: usize) -> usize
     )
 }
 
-// The result, with `-` unless decided.
-fn put_result(text: &mut [u8], at: usize, phase: u8, result: u32) -> usize
+// A number of the verdict, with `-` unless decided.
+fn put_verdict(text: &mut [u8], at: usize, phase: u8, number: u32) -> usize
     requires { ⌜ at + 11 ≤ length (now text) ⌝ }
-    ensures { λ r. ⌜ Wrote (now (text .entry)) at (resultField phase result) (now (text .exit)) r ⌝ }
+    ensures { λ r. ⌜ Wrote (now (text .entry)) at (verdictField phase number) (now (text .exit)) r ⌝ }
 {
     if phase == 3 {
-        return put_field(text, at, result);
+        return put_field(text, at, number);
     }
     let dash = put_byte(text, at, b' ');
     put_byte(text, dash, b'-')
 }
 
-// The end of a rank line: phase, result.
-fn put_phase(text: &mut [u8], at: usize, phase: u8, result: u32) -> usize
-    requires { ⌜ at + 23 ≤ length (now text) ⌝ }
-    ensures { λ r. ⌜ Wrote (now (text .entry)) at (field phase ++ (resultField phase result ++ feed)) (now (text .exit)) r ⌝ }
+// The end of a rank line: phase, result, code.
+fn put_phase(text: &mut [u8], at: usize, phase: u8, result: Triple) -> usize
+    requires { ⌜ at + 34 ≤ length (now text) ⌝ }
+    ensures { λ r. ⌜ Wrote (now (text .entry)) at (field phase ++ (verdictField phase (result .word) ++ (verdictField phase (code result) ++ feed))) (now (text .exit)) r ⌝ }
 {
-    let next = put_field(text, at, phase as u32);
-    let end = put_result(text, next, phase, result);
+    let word = put_field(text, at, phase as u32);
+    let code = put_verdict(text, word, phase, result.word);
+    let end = put_verdict(text, code, phase, result.code());
     put_byte(text, end, b'\n')
 }
 
@@ -71,16 +74,17 @@ fn living(dead: u64, i: u8) -> u32
     if sets::member(dead, i) { 0 } else { 1 }
 }
 
-// Rank line: rank, 1 if living, phase, result.
+// Rank line: rank, 1 if living, phase, result, code.
 pub fn put_rank(text: &mut [u8], at: usize, dead: u64, i: u8, r: Rank) -> usize
-    requires { ⌜ at + 46 ≤ length (now text) ⌝ }
+    requires { ⌜ at + 57 ≤ length (now text) ⌝ }
     requires { ⌜ i < 64 ⌝ }
     ensures { λ x. ⌜ Wrote (now (text .entry)) at (rankLine dead i r) (now (text .exit)) x ⌝ }
 {
     let rank = put_byte(text, at, b'r');
     let alive = put_field(text, rank, i as u32);
     let phase = put_field(text, alive, living(dead, i));
-    put_phase(text, phase, r.phase, r.result)
+    let result = r.result;
+    put_phase(text, phase, r.phase, result)
 }
 
 // Last line: messages in flight.

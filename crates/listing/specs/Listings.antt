@@ -36,6 +36,6 @@ fileRoom = longest + 1
 abbrev pub answersRoom : ℕ
 answersRoom = 3 * mostEvents
 
--- To list it: 50 bytes, 44 an event and 46 a rank.
+-- To list it: 50 bytes, 44 an event and 57 a rank.
 abbrev pub textRoom : ℕ
-textRoom = 50 + 44 * mostEvents + 46 * 64
+textRoom = 50 + 44 * mostEvents + 57 * 64

@@ -10,6 +10,7 @@ use Rattle.tree.specs.Tree.{flat}
 use Rattle.tree.specs.Calls.{same}
 use Rattle.tree.specs.Examples.{tallies}
 use Rattle.rank.specs.declared.Rank.{Rank}
+use Rattle.rank.specs.Triples.{zeroTriple}
 use Rattle.net.specs.Net.{inFlight}
 use Rattle.events.specs.Events.{eventOf}
 use Rattle.state.specs.declared.State.{State}
@@ -53,12 +54,12 @@ threeListing =
     49 ∷ 48 ∷ 32 ∷ 48 ∷ 32 ∷ 49 ∷ 32 ∷ 48 ∷ 10 ∷
     -- 11 8 0 0
     49 ∷ 49 ∷ 32 ∷ 56 ∷ 32 ∷ 48 ∷ 32 ∷ 48 ∷ 10 ∷
-    -- r 0 0 3 4
-    114 ∷ 32 ∷ 48 ∷ 32 ∷ 48 ∷ 32 ∷ 51 ∷ 32 ∷ 52 ∷ 10 ∷
-    -- r 1 1 3 6
-    114 ∷ 32 ∷ 49 ∷ 32 ∷ 49 ∷ 32 ∷ 51 ∷ 32 ∷ 54 ∷ 10 ∷
-    -- r 2 1 3 6
-    114 ∷ 32 ∷ 50 ∷ 32 ∷ 49 ∷ 32 ∷ 51 ∷ 32 ∷ 54 ∷ 10 ∷
+    -- r 0 0 3 4 0
+    114 ∷ 32 ∷ 48 ∷ 32 ∷ 48 ∷ 32 ∷ 51 ∷ 32 ∷ 52 ∷ 32 ∷ 48 ∷ 10 ∷
+    -- r 1 1 3 6 1
+    114 ∷ 32 ∷ 49 ∷ 32 ∷ 49 ∷ 32 ∷ 51 ∷ 32 ∷ 54 ∷ 32 ∷ 49 ∷ 10 ∷
+    -- r 2 1 3 6 1
+    114 ∷ 32 ∷ 50 ∷ 32 ∷ 49 ∷ 32 ∷ 51 ∷ 32 ∷ 54 ∷ 32 ∷ 49 ∷ 10 ∷
     -- m 1
     109 ∷ 32 ∷ 49 ∷ 10 ∷
     []
@@ -82,12 +83,15 @@ one = started flat 1 .state
 unfoldable pub two : State
 two = started flat 2 .state
 
--- rank 1 of two has entered, and its UP is in flight; it has crashed
+-- rank 1 of two has entered, and its UP is in flight; it has crashed; rank 0 is told of it
 unfoldable pub reporting : State
 reporting = event flat two (eventOf 1 1 5) .state
 
 unfoldable pub widowed : State
 widowed = event flat reporting (eventOf 3 1 0) .state
+
+unfoldable pub informed : State
+informed = event flat widowed (eventOf 4 0 1) .state
 
 -- nobody lives; and 128 messages are in flight
 unfoldable pub extinct : State
@@ -101,7 +105,7 @@ crowded =
       dead = 0;
       count = inFlight;
       ranks = two .group .ranks;
-      net = replicate inFlight (record { kind = 1; from = 1; to = 0; word = 0 });
+      net = replicate inFlight (record { kind = 1; from = 1; to = 0; triple = zeroTriple });
     })
     (two .tables)
 
@@ -132,17 +136,21 @@ witnesses =
     eqb (started flat 0 .answer) 1 ∷ eqb (started flat 65 .answer) 1 ∷ refuses (event flat (started flat 65 .state) (eventOf 1 0 0)) 1
     -- 2: nobody lives
     ∷ refuses (event flat extinct (eventOf 1 0 0)) 2
-    -- 3: no such kind; a delivery with b
-    ∷ refuses (event flat two (eventOf 6 0 0)) 3
+    -- 3: no such kind; a delivery and an acknowledgement with b
+    ∷ refuses (event flat two (eventOf 7 0 0)) 3
     ∷ refuses (event flat reporting (eventOf 2 0 1)) 3
-    -- 4: who enters; who is dead
+    ∷ refuses (event flat two (eventOf 6 0 1)) 3
+    -- 4: who enters; who is dead; who acknowledges
     ∷ refuses (event flat two (eventOf 1 2 0)) 4
     ∷ refuses (event flat two (eventOf 4 0 2)) 4
+    ∷ refuses (event flat two (eventOf 6 2 0)) 4
     -- 5 and 6
     ∷ refuses (event flat two (eventOf 2 0 0)) 5
     ∷ refuses (event flat widowed (eventOf 1 1 0)) 6
+    ∷ refuses (event flat widowed (eventOf 6 1 0)) 6
     -- 7 to 11
     ∷ refuses (event flat reporting (eventOf 1 1 5)) 7
+    ∷ refuses (event flat reporting (eventOf 6 1 0)) 7
     ∷ refuses (event flat two (eventOf 4 0 1)) 8
     ∷ refuses (event flat one (eventOf 3 0 0)) 9
     ∷ refuses (event flat reporting (eventOf 5 0 0)) 10
@@ -155,7 +163,7 @@ witnesses =
     -- UP: rank 1 has heard rank 2, and owes it.
     ∷ (goes 3 && has (seen 4 1 .heard) 2 && has (seen 4 1 .owed) 2)
     -- Decide: the root has heard its child, and settles on 4.
-    ∷ (goes 4 && eqb (seen 5 0 .phase) 3 && eqb (seen 5 0 .result) 4)
+    ∷ (goes 4 && eqb (seen 5 0 .phase) 3 && eqb (seen 5 0 .result .word) 4)
     -- A crash: rank 0 is dead.
     ∷ (goes 5 && has (later 6 .group .dead) 0)
     -- Notice: rank 1 marks its parent, becomes root and gathers again.
@@ -171,7 +179,9 @@ witnesses =
     -- and the sum over its marks: 1, then 2 and 3, then 3 and 4, so 3 counts twice.
     ∷ movesThese (event flat five (eventOf 2 2 0)) 0b11110 5
     -- DOWN: rank 2 decides 6.
-    ∷ (goes 10 && eqb (seen 11 2 .phase) 3 && eqb (seen 11 2 .result) 6)
+    ∷ (goes 10 && eqb (seen 11 2 .phase) 3 && eqb (seen 11 2 .result .word) 6)
+    -- Acknowledge: the death that rank 0 was told of.
+    ∷ (eqb (event flat informed (eventOf 6 0 0) .answer) 0 && has (rankAt (event flat informed (eventOf 6 0 0) .state) 0 .acknowledged) 1)
     -- A lost message.
     ∷ eqb (event flat widowed (eventOf 5 0 0) .answer) 0
     -- The whole example prints its listing.

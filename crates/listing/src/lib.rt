@@ -34,7 +34,7 @@ fn put_events(text: &mut [u8], at: usize, answers: &[u32], events: usize) -> usi
 
 // The rank lines, ascending.
 fn put_ranks(text: &mut [u8], at: usize, n: u8, dead: u64, ranks: [Rank; 64]) -> usize
-    requires { ⌜ at + 46 * n ≤ length (now text) ⌝ }
+    requires { ⌜ at + 57 * n ≤ length (now text) ⌝ }
     requires { ⌜ n ≤ 64 ⌝ }
     ensures { λ r. ⌜ Wrote (now (text .entry)) at (lines (λ i. rankLine dead i (getD ranks i zeroRank)) n) (now (text .exit)) r ⌝ }
 {
@@ -50,7 +50,7 @@ fn put_ranks(text: &mut [u8], at: usize, n: u8, dead: u64, ranks: [Rank; 64]) ->
 
 // Writes the listing of a run from the buffer's start on, and answers its length.
 pub fn list(text: &mut [u8], events: u32, answers: &[u32], s: State) -> usize
-    requires { ⌜ 50 + 44 * events + 46 * s .group .n ≤ length (now text) ⌝ }
+    requires { ⌜ 50 + 44 * events + 57 * s .group .n ≤ length (now text) ⌝ }
     requires { ⌜ 3 * events ≤ length (now answers) ⌝ }
     requires { ⌜ events ≤ 4096 ⌝ }
     requires { ⌜ s .group .n ≤ 64 ⌝ }

@@ -1,12 +1,13 @@
-// The messages in flight: 128 places, zero after the last message. While events are played each message is one number, so that a list is
+// The messages in flight: 128 places, zero after the last message. While events are played each message is three numbers, so that a list is
 // changed where it stands.
 use rank::Message;
 use rank::Send;
+use rank::Triple;
 ghost use mathlib.Core.Path.{_≡_};
 ghost use mathlib.Core.Bool.{cond, true};
 ghost use mathlib.Core.List.{_++_};
 ghost use Prim.Native.Nat.{_+_, _-_, _^_, _<_, _≤_};
-ghost use lib.ListN.{getD, length, take};
+ghost use lib.ListN.{getD, length, set, take};
 ghost use Rattle.rank.specs.Sends.{letters, size};
 ghost use Rattle.net.specs.Net.{joining, messageOf, messagesOf, padded, placed, Small, without, zeroMessage};
 
@@ -24,57 +25,92 @@ pub fn nothing() -> Message
         kind: 0,
         from: 0,
         to: 0,
-        word: 0,
+        triple: Triple::zero(),
     }
 }
 
-// A message as one number, and the message of a number.
+// The first of a message's three numbers, and the message of three.
 fn number_of(m: Message) -> u64
-    ensures { λ r. ⌜ messageOf r ≡ m ⌝ }
+    ensures { λ r. ⌜ messageOf r (m .triple .known) (m .triple .acknowledged) ≡ m ⌝ }
     ensures { λ r. ⌜ r < 2 ^ 56 ⌝ }
 {
-    m.kind as u64 + 256 * (m.from as u64) + 65536 * (m.to as u64) + 16777216 * (m.word as u64)
+    let triple = m.triple;
+    m.kind as u64 + 256 * (m.from as u64) + 65536 * (m.to as u64) + 16777216 * (triple.word as u64)
 }
 
-fn message_of(x: u64) -> Message
-    ensures { λ r. ⌜ r ≡ messageOf x ⌝ }
+fn message_of(x: u64, known: u64, acknowledged: u64) -> Message
+    ensures { λ r. ⌜ r ≡ messageOf x known acknowledged ⌝ }
 {
     Message {
         kind: (x % 256) as u8,
         from: (x / 256 % 256) as u8,
         to: (x / 65536 % 256) as u8,
-        word: (x / 16777216 % 4294967296) as u32,
+        triple: Triple {
+            word: (x / 16777216 % 4294967296) as u32,
+            known,
+            acknowledged,
+        },
     }
 }
 
+// A message is put at a place; and the message of the next place is.
+fn put(net: &mut [u64; 384], place: u8, m: Message)
+    requires { ⌜ place < 128 ⌝ }
+    requires { ⌜ Small (now net) ⌝ }
+    ensures { λ _. ⌜ Small (now (net .exit)) ⌝ }
+    ensures { λ _. ⌜ messagesOf (now (net .exit)) ≡ set (messagesOf (now (net .entry))) place m ⌝ }
+{
+    let triple = m.triple;
+    let i = place as usize;
+    net[i] = number_of(m);
+    net[128 + i] = triple.known;
+    net[256 + i] = triple.acknowledged;
+}
+
+fn pull(net: &mut [u64; 384], place: u8)
+    requires { ⌜ place + 1 < 128 ⌝ }
+    requires { ⌜ Small (now net) ⌝ }
+    ensures { λ _. ⌜ Small (now (net .exit)) ⌝ }
+    ensures { λ _. ⌜ messagesOf (now (net .exit)) ≡ set (messagesOf (now (net .entry))) place (getD (messagesOf (now (net .entry))) (place + 1) zeroMessage) ⌝ }
+{
+    let i = place as usize;
+    let next = i + 1;
+    let number = net[next];
+    let known = net[128 + next];
+    let acknowledged = net[256 + next];
+    net[i] = number;
+    net[128 + i] = known;
+    net[256 + i] = acknowledged;
+}
+
 // A list as numbers, and the list of such numbers.
-pub fn numbers(net: [Message; 128], count: u8) -> [u64; 128]
+pub fn numbers(net: [Message; 128], count: u8) -> [u64; 384]
     requires { ⌜ net ≡ padded (take count net) ⌝ }
     requires { ⌜ count ≤ 128 ⌝ }
     ensures { λ r. ⌜ messagesOf r ≡ net ⌝ }
     ensures { λ r. ⌜ Small r ⌝ }
 {
-    let mut found = [0u64; 128];
+    let mut found = [0u64; 384];
     let mut i: u8 = 0;
     while i < count {
-        let m = net[i as usize];
-        found[i as usize] = number_of(m);
+        put(&mut found, i, net[i as usize]);
         i += 1;
     }
     found
 }
 
-pub fn messages(net: [u64; 128], count: u8) -> [Message; 128]
+pub fn messages(net: [u64; 384], count: u8) -> [Message; 128]
     requires { ⌜ messagesOf net ≡ padded (take count (messagesOf net)) ⌝ }
     requires { ⌜ count ≤ 128 ⌝ }
     ensures { λ r. ⌜ r ≡ messagesOf net ⌝ }
 {
     let mut found = [nothing(); 128];
-    let mut i: u8 = 0;
-    while i < count {
-        let m = message_of(net[i as usize]);
-        found[i as usize] = m;
-        i += 1;
+    let mut k: u8 = 0;
+    while k < count {
+        let i = k as usize;
+        let m = message_of(net[i], net[128 + i], net[256 + i]);
+        found[i] = m;
+        k += 1;
     }
     found
 }
@@ -89,18 +125,19 @@ pub fn at(net: [Message; 128], place: u32) -> Message
     nothing()
 }
 
-pub fn message_at(net: &[u64; 128], place: u32) -> Message
-    requires { ⌜ length (now net) ≡ 128 ⌝ }
+pub fn message_at(net: &[u64; 384], place: u32) -> Message
+    requires { ⌜ length (now net) ≡ 384 ⌝ }
     ensures { λ r. ⌜ r ≡ getD (messagesOf (now (net .entry))) place zeroMessage ⌝ }
 {
     if place < 128 {
-        return message_of(net[place as usize]);
+        let i = place as usize;
+        return message_of(net[i], net[128 + i], net[256 + i]);
     }
     nothing()
 }
 
 // The message at a place leaves, and later ones move up.
-fn take_out(net: &mut [u64; 128], count: u8, place: u8)
+fn take_out(net: &mut [u64; 384], count: u8, place: u8)
     requires { ⌜ messagesOf (now net) ≡ padded (take count (messagesOf (now net))) ⌝ }
     requires { ⌜ place < count ⌝ }
     requires { ⌜ count ≤ 128 ⌝ }
@@ -110,14 +147,14 @@ fn take_out(net: &mut [u64; 128], count: u8, place: u8)
 {
     let mut i: u8 = place;
     while i + 1 < count {
-        net[i as usize] = net[(i + 1) as usize];
+        pull(net, i);
         i += 1;
     }
-    net[i as usize] = 0;
+    put(net, i, nothing());
 }
 
 // The messages of a send join at the end, in ascending order of receiver. Answers how many are in flight then.
-fn post(net: &mut [u64; 128], start: u8, me: u8, s: Send) -> u8
+fn post(net: &mut [u64; 384], start: u8, me: u8, s: Send) -> u8
     requires { ⌜ messagesOf (now net) ≡ padded (take start (messagesOf (now net))) ⌝ }
     requires { ⌜ start + size s ≤ 128 ⌝ }
     requires { ⌜ Small (now net) ⌝ }
@@ -129,12 +166,14 @@ fn post(net: &mut [u64; 128], start: u8, me: u8, s: Send) -> u8
     let mut left = s.to;
     while left != 0 {
         let q = sets::smallest(left);
-        net[count as usize] = number_of(Message {
+        let triple = s.triple;
+        let m = Message {
             kind: s.kind,
             from: me,
             to: q,
-            word: s.word,
-        });
+            triple,
+        };
+        put(net, count, m);
         count += 1;
         left = sets::minus(left, sets::only(q));
     }
@@ -142,7 +181,7 @@ fn post(net: &mut [u64; 128], start: u8, me: u8, s: Send) -> u8
 }
 
 // The message at a place leaves, if one leaves. Answers how many are left.
-fn let_go(net: &mut [u64; 128], count: u8, place: u32, leaves: bool) -> u8
+fn let_go(net: &mut [u64; 384], count: u8, place: u32, leaves: bool) -> u8
     requires { ⌜ messagesOf (now net) ≡ padded (take count (messagesOf (now net))) ⌝ }
     requires { ⌜ count ≤ 128 ⌝ }
     requires { ⌜ (leaves ≡ true → place < count) ⌝ }
@@ -160,7 +199,7 @@ fn let_go(net: &mut [u64; 128], count: u8, place: u32, leaves: bool) -> u8
 
 // A message leaves, if one leaves, and two sends join.
 pub fn forward(
-    net: &mut [u64; 128],
+    net: &mut [u64; 384],
     count: u8,
     place: u32,
     me: u8,

@@ -15,7 +15,8 @@ use Rattle.rank.specs.declared.Rank.{Rank}
 use Rattle.rank.specs.declared.Acted.{Acted}
 use Rattle.rank.specs.Words.{ask}
 use Rattle.rank.proofs.Laws.Keeping.{fresh-marks}
-use Rattle.rank.proofs.Laws.Knowing.{ask-marks, ask-row, notice-marks, notice-row}
+use Rattle.rank.proofs.Laws.Knowing as Rank
+use Rattle.rank.proofs.Laws.Knowing.{ask-row, notice-row}
 use Rattle.events.specs.declared.Event.{Event}
 use Rattle.events.specs.Events.{eventOf}
 use Rattle.state.specs.declared.State.{State}
@@ -35,11 +36,11 @@ use Rattle.news.proofs.Lists.{added-below, told-append}
 module _ (anc : ℕ → ℕ) (n me : ℕ) where
   pub notice-shows : (x : Acted) (q : ℕ) → Shows anc n (add (x .rank .marks) q) (inActed (takes anc n me x (byNotice q)))
   unfolding takes
-  notice-shows x q = (notice-marks anc n me q (x .rank), notice-row anc n me q (x .rank) ∙ ap (fresh anc n) (notice-marks anc n me q (x .rank)))
+  notice-shows x q = (Rank.notice-knows anc n me q (x .rank) .marks-are, notice-row anc n me q (x .rank) ∙ ap (fresh anc n) (Rank.notice-knows anc n me q (x .rank) .marks-are))
 
   pub ask-shows : (q : ℕ) (x : Acted) → Shows anc n (union (x .rank .marks) (below q)) (inActed (takes anc n me x (byAsk q)))
   unfolding takes
-  ask-shows q x = (ask-marks anc n me q (x .rank), ask-row anc n me q (x .rank) ∙ ap (fresh anc n) (ask-marks anc n me q (x .rank)))
+  ask-shows q x = (Rank.ask-knows anc n me q (x .rank) .marks-are, ask-row anc n me q (x .rank) ∙ ap (fresh anc n) (Rank.ask-knows anc n me q (x .rank) .marks-are))
 
   -- a piece of news, and a list of them, add what they tell of
   takes-shows : (x : Acted) (e : News) → Shows anc n (foldl add (x .rank .marks) (tellsOf e)) (inActed (takes anc n me x e))

@@ -9,6 +9,7 @@ use Rattle.tree.specs.Tree.{fresh}
 use Rattle.tree.specs.Calls.{wrongSize, same}
 use Rattle.rank.specs.declared.Rank.{Rank}
 use Rattle.rank.specs.declared.Message.{Message}
+use Rattle.rank.specs.declared.Triple.{Triple}
 use Rattle.rank.specs.Words.{gathering, waiting, decided, up, ask}
 use Rattle.rank.specs.Records.{parentOf, awaiting}
 use Rattle.net.specs.Net.{inFlight}
@@ -23,19 +24,29 @@ isWithin w bound = eqb (minus w bound) 0
 unfoldable pub proper : ℕ → ℕ → ℕ → Bool
 proper n me w = isWithin w (below n) && not (has w me)
 
+-- A triple's sets lie within n; they may have their own rank in them.
+unfoldable pub tripleWithin : ℕ → Triple → Bool
+tripleWithin n t = isWithin (t .known) (below n) && isWithin (t .acknowledged) (below n)
+
+-- A triple is all 0.
+unfoldable pub isZero : Triple → Bool
+isZero t = all (eqb (t .word) 0 ∷ eqb (t .known) 0 ∷ eqb (t .acknowledged) 0 ∷ [])
+
 -- One rank: the rank numbered me, in a group of n, with its row of the tables.
 unfoldable pub clauses : (ℕ → ℕ) → ℕ → ℕ → Rank → List ℕ → List Bool
 clauses anc n me r row =
     -- all sets lie within n and leave out their own rank
     proper n me (r .marks) ∷ proper n me (r .heard) ∷ proper n me (r .awaited) ∷ proper n me (r .owed)
+    -- the acknowledged set lies within the marks, and a triple's sets within n
+    ∷ isWithin (r .acknowledged) (r .marks) ∷ tripleWithin n (r .triple) ∷ tripleWithin n (r .result)
     -- tables and awaited sets equal the fresh ones
     ∷ same row (fresh anc n (r .marks)) ∷ eqb (r .awaited) (awaiting anc n me (r .marks) (r .heard))
     -- gathering means awaited is not empty
     ∷ (not (eqb (r .phase) gathering) || not (eqb (r .awaited) 0))
     -- waiting means there is a parent
     ∷ (not (eqb (r .phase) waiting) || not (eqb (parentOf anc me r) none))
-    -- result is 0 unless decided
-    ∷ (eqb (r .phase) decided || eqb (r .result) 0)
+    -- a result is all 0 unless decided
+    ∷ (eqb (r .phase) decided || isZero (r .result))
     -- phases are known
     ∷ leb (r .phase) decided
     ∷ []
@@ -50,7 +61,9 @@ memberInOrder anc n dead i r row = rankInOrder anc n i r row && isWithin (r .mar
 -- Records of ranks at n and above are all zero and their table rows all 255.
 unfoldable pub zeroRecord : Rank → Bool
 zeroRecord r =
-    all (eqb (r .phase) 0 ∷ eqb (r .marks) 0 ∷ eqb (r .heard) 0 ∷ eqb (r .awaited) 0 ∷ eqb (r .owed) 0 ∷ eqb (r .word) 0 ∷ eqb (r .result) 0 ∷ [])
+    all (eqb (r .phase) 0 ∷ eqb (r .marks) 0 ∷ eqb (r .acknowledged) 0 ∷ eqb (r .heard) 0 ∷ eqb (r .awaited) 0 ∷ eqb (r .owed) 0
+    ∷ isZero (r .triple) ∷ isZero (r .result)
+    ∷ [])
 
 unfoldable pub strangerInOrder : Rank → List ℕ → Bool
 strangerInOrder r row = zeroRecord r && same row (replicate 64 none)
@@ -68,15 +81,15 @@ messageInOrder n dead m =
     all (ltb (m .from) n ∷ ltb (m .to) n ∷ not (eqb (m .from) (m .to))
     -- kinds are known
     ∷ leb up (m .kind) ∷ leb (m .kind) ask
-    -- an ASK's word is 0
-    ∷ (not (eqb (m .kind) ask) || eqb (m .word) 0)
+    -- a triple's sets lie within n, and an ASK's triple is all 0
+    ∷ tripleWithin n (m .triple) ∷ (not (eqb (m .kind) ask) || isZero (m .triple))
     -- every rank below an ASK's sender is dead
     ∷ (not (eqb (m .kind) ask) || isWithin (below (m .from)) dead)
     ∷ [])
 
 -- Places after the last are all zero.
 unfoldable pub zeroPlace : Message → Bool
-zeroPlace m = all (eqb (m .kind) 0 ∷ eqb (m .from) 0 ∷ eqb (m .to) 0 ∷ eqb (m .word) 0 ∷ [])
+zeroPlace m = all (eqb (m .kind) 0 ∷ eqb (m .from) 0 ∷ eqb (m .to) 0 ∷ isZero (m .triple) ∷ [])
 
 unfoldable pub placeInOrder : ℕ → ℕ → ℕ → ℕ → Message → Bool
 placeInOrder n dead c i m = cond (ltb i c) (messageInOrder n dead m) (zeroPlace m)

@@ -4,6 +4,7 @@ use rank::DECIDED;
 use rank::GATHERING;
 use rank::Message;
 use rank::Rank;
+use rank::Triple;
 use rank::UP;
 use rank::WAITING;
 use state::State;
@@ -16,7 +17,7 @@ ghost use Rattle.sets.specs.Sets.{every};
 ghost use Rattle.tree.specs.Tree.{flat};
 ghost use Rattle.net.specs.Net.{zeroMessage};
 ghost use Rattle.state.specs.States.{zeroRank};
-ghost use Rattle.order.specs.Order.{isWithin, memberInOrder, messageInOrder, placeInOrder, inOrder, proper, rankInOrder, seatInOrder, strangerInOrder, zeroPlace, zeroRecord};
+ghost use Rattle.order.specs.Order.{inOrder, isWithin, isZero, memberInOrder, messageInOrder, placeInOrder, proper, rankInOrder, seatInOrder, strangerInOrder, tripleWithin, zeroPlace, zeroRecord};
 ghost use Rattle.order.specs.Between.{Shaped};
 
 // Whether a set lies within another.
@@ -47,6 +48,32 @@ fn sets_proper(n: u8, me: u8, r: Rank) -> bool
         & proper(n, me, r.owed)
 }
 
+// Whether a triple's sets lie within n.
+fn triple_within(n: u8, t: Triple) -> bool
+    requires { ⌜ n ≤ 64 ⌝ }
+    ensures { λ r. ⌜ r ≡ tripleWithin n t ⌝ }
+{
+    let all = sets::below(n);
+    is_within(t.known, all) & is_within(t.acknowledged, all)
+}
+
+// Whether a triple is all 0.
+fn is_zero(t: Triple) -> bool
+    ensures { λ r. ⌜ r ≡ isZero t ⌝ }
+{
+    (t.word == 0) & (t.known == 0) & (t.acknowledged == 0)
+}
+
+// Whether the sets of a rank's two triples lie within n.
+fn triples_within(n: u8, r: Rank) -> bool
+    requires { ⌜ n ≤ 64 ⌝ }
+    ensures { λ t. ⌜ t ≡ tripleWithin n (r .triple) && tripleWithin n (r .result) ⌝ }
+{
+    let triple = r.triple;
+    let result = r.result;
+    triple_within(n, triple) & triple_within(n, result)
+}
+
 // One rank: its record and its row.
 fn rank_in_order(n: u8, me: u8, r: Rank, row: [u8; 64]) -> bool
     requires { ⌜ n ≤ 64 ⌝ }
@@ -60,8 +87,10 @@ fn rank_in_order(n: u8, me: u8, r: Rank, row: [u8; 64]) -> bool
     let awaited = sets::minus(tree::children_of(n, r.marks, row, me), r.heard);
     let gathers = !(r.phase == GATHERING) | !(r.awaited == 0);
     let waits = !(r.phase == WAITING) | !(parent == sets::NONE);
-    let unless = (r.phase == DECIDED) | (r.result == 0);
-    sets_proper(n, me, r) & (r.awaited == awaited) & gathers & waits & unless & (r.phase <= DECIDED)
+    let result = r.result;
+    let unless = (r.phase == DECIDED) | is_zero(result);
+    let inside = sets_proper(n, me, r) & is_within(r.acknowledged, r.marks) & triples_within(n, r);
+    inside & (r.awaited == awaited) & gathers & waits & unless & (r.phase <= DECIDED)
 }
 
 // A rank of the group.
@@ -77,13 +106,16 @@ fn member_in_order(n: u8, dead: u64, i: u8, r: Rank, row: [u8; 64]) -> bool
 fn zero_record(r: Rank) -> bool
     ensures { λ t. ⌜ t ≡ zeroRecord r ⌝ }
 {
+    let triple = r.triple;
+    let result = r.result;
     (r.phase == 0)
         & (r.marks == 0)
+        & (r.acknowledged == 0)
         & (r.heard == 0)
         & (r.awaited == 0)
         & (r.owed == 0)
-        & (r.word == 0)
-        & (r.result == 0)
+        & is_zero(triple)
+        & is_zero(result)
 }
 
 fn stranger_in_order(r: Rank, row: [u8; 64]) -> bool
@@ -129,11 +161,13 @@ fn message_in_order(n: u8, dead: u64, m: Message) -> bool
         return false;
     }
     let low = is_within(sets::below(m.from), dead);
+    let triple = m.triple;
     (m.to < n)
         & !(m.from == m.to)
         & (UP <= m.kind)
         & (m.kind <= ASK)
-        & (!(m.kind == ASK) | (m.word == 0))
+        & triple_within(n, triple)
+        & (!(m.kind == ASK) | is_zero(triple))
         & (!(m.kind == ASK) | low)
 }
 
@@ -141,7 +175,8 @@ fn message_in_order(n: u8, dead: u64, m: Message) -> bool
 fn zero_place(m: Message) -> bool
     ensures { λ t. ⌜ t ≡ zeroPlace m ⌝ }
 {
-    (m.kind == 0) & (m.from == 0) & (m.to == 0) & (m.word == 0)
+    let triple = m.triple;
+    (m.kind == 0) & (m.from == 0) & (m.to == 0) & is_zero(triple)
 }
 
 // One of the 128 places.

@@ -11,10 +11,10 @@ use Rattle.rank.specs.declared.Message.{Message}
 use Rattle.rank.specs.declared.Acted.{Acted}
 use Rattle.rank.specs.Words.{up, down}
 use Rattle.rank.specs.Sends.{silent, size}
-use Rattle.rank.specs.Rules.{entering, takingUp, takingDown, takingAsk, noticing}
+use Rattle.rank.specs.Rules.{entering, takingUp, takingDown, takingAsk, noticing, acknowledging}
 use Rattle.net.specs.Net.{inFlight}
 use Rattle.events.specs.declared.Event.{Event}
-use Rattle.events.specs.Events.{enters, delivers, crashes, notices, namesPlace}
+use Rattle.events.specs.Events.{enters, delivers, crashes, notices, acknowledges, namesPlace}
 use Rattle.refusals.specs.Refusing.{refusal}
 use Rattle.plans.specs.declared.Plan.{Plan}
 
@@ -46,8 +46,8 @@ module _ (anc : ℕ → ℕ) (n dead : ℕ) where
   unfoldable pub delivered : ℕ → Message → Rank → List ℕ → Acted
   delivered me m r row =
       cond (has dead me || has (r .marks) (m .from)) (idle r row)
-      (cond (eqb (m .kind) up) (takingUp anc n me (m .from) (m .word) r)
-      (cond (eqb (m .kind) down) (takingDown anc n me (m .word) r)
+      (cond (eqb (m .kind) up) (takingUp anc n me (m .from) (m .triple) r)
+      (cond (eqb (m .kind) down) (takingDown anc n me (m .triple) r)
       (takingAsk anc n me (m .from) r)))
 
   -- What the event has its rank do. A crash freezes the record, and a lost message is nobody's.
@@ -56,7 +56,8 @@ module _ (anc : ℕ → ℕ) (n dead : ℕ) where
       cond (eqb (ev .kind) enters) (entering anc n me (ev .b) r)
       (cond (eqb (ev .kind) delivers) (delivered me m r row)
       (cond (eqb (ev .kind) notices) (noticing anc n me (ev .b) r)
-      (idle r row)))
+      (cond (eqb (ev .kind) acknowledges) (acknowledging anc n me r)
+      (idle r row))))
 
   unfoldable pub planned : ℕ → Event → Message → ℕ → Rank → List ℕ → Plan
   planned count ev m me r row =

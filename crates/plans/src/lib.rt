@@ -11,6 +11,7 @@ ghost use mathlib.Core.Path.{_≡_};
 ghost use mathlib.Core.Bool.{cond};
 ghost use Prim.Native.Nat.{_+_, _-_, _<_};
 ghost use Rattle.tree.specs.Tree.{flat};
+ghost use Rattle.refusals.specs.Refusing.{refusal};
 ghost use Rattle.plans.specs.Plans.{acting, delivered, idle, planned, refusing, subject};
 ghost use Rattle.plans.specs.Between.{FreshSubject};
 
@@ -56,11 +57,12 @@ fn deliver(n: u8, dead: u64, m: Message, me: u8, r: Rank, row: [u8; 64]) -> Acte
     if sets::member(dead, me) | sets::member(r.marks, m.from) {
         return idle(r, row);
     }
+    let triple = m.triple;
     if m.kind == UP {
-        return r.up(n, me, row, m.from, m.word);
+        return r.up(n, me, row, m.from, triple);
     }
     if m.kind == DOWN {
-        return r.down(n, me, row, m.word);
+        return r.down(n, me, row, triple);
     }
     r.ask(n, me, row, m.from)
 }
@@ -79,6 +81,9 @@ fn act(n: u8, dead: u64, ev: Event, m: Message, me: u8, r: Rank, row: [u8; 64]) 
     }
     if ev.kind == events::NOTICES {
         return r.notice(n, me, row, ev.b as u8);
+    }
+    if ev.kind == events::ACKNOWLEDGES {
+        return r.acknowledge(n, me, row);
     }
     idle(r, row)
 }
@@ -109,6 +114,36 @@ fn refuse(answer: u32, r: Rank, row: [u8; 64]) -> Plan
     }
 }
 
+// Decides what an event does that none of 3 to 10 refuses: that, or 11.
+pub fn plan_clean(
+    n: u8,
+    dead: u64,
+    count: u8,
+    ev: Event,
+    m: Message,
+    me: u8,
+    r: Rank,
+    row: [u8; 64],
+) -> Plan
+    requires { ⌜ FreshSubject flat n m me r row ⌝ }
+    requires { ⌜ refusal n dead count ev r m ≡ 0 ⌝ }
+    ensures { λ t. ⌜ t ≡ planned flat n dead count ev m me r row ⌝ }
+{
+    let acted = act(n, dead, ev, m, me, r, row);
+    let first = acted.first;
+    let second = acted.second;
+    let leaves = events::names_place(ev.kind);
+    if 128 < afterwards(count, sets::size(first.to), sets::size(second.to), leaves) {
+        return refuse(11, r, row);
+    }
+    Plan {
+        answer: 0,
+        leaves,
+        dies: ev.kind == events::CRASHES,
+        acted,
+    }
+}
+
 // Decides what an event does, from one rank's record and row and the message at the place.
 pub fn plan_event(
     n: u8,
@@ -127,17 +162,5 @@ pub fn plan_event(
     if number != 0 {
         return refuse(number, r, row);
     }
-    let acted = act(n, dead, ev, m, me, r, row);
-    let first = acted.first;
-    let second = acted.second;
-    let leaves = events::names_place(ev.kind);
-    if 128 < afterwards(count, sets::size(first.to), sets::size(second.to), leaves) {
-        return refuse(11, r, row);
-    }
-    Plan {
-        answer: 0,
-        leaves,
-        dies: ev.kind == events::CRASHES,
-        acted,
-    }
+    plan_clean(n, dead, count, ev, m, me, r, row)
 }

@@ -64,7 +64,7 @@ fn assemble(
 }
 
 // Plays the events that are spelt out in the slice on a state in order; what is told of an event takes its place. It holds the state's parts
-// by themselves, so that an event stores only what changes.
+// by themselves, so that an event stores only what changes; a refusal is found before the rank's record and row are taken out.
 pub fn play(total: usize, out: &mut [u32], s: State) -> State
     requires { ⌜ InOrder flat s ⌝ }
     requires { ⌜ 3 * total ≤ length (now out) ⌝ }
@@ -84,9 +84,15 @@ pub fn play(total: usize, out: &mut [u32], s: State) -> State
         let ev = event_in(out, k);
         let m = net::message_at(&net, ev.a);
         let me = plans::subject(n, ev, m);
+        let number = refusals::refusal(n, dead, count, ev, ranks[me as usize], m);
+        if number != 0 {
+            put_three(out, k, number, 0, 0);
+            k += 1;
+            continue;
+        }
         let r = ranks[me as usize];
         let row = tables[me as usize];
-        let p = plans::plan_event(n, dead, count, ev, m, me, r, row);
+        let p = plans::plan_clean(n, dead, count, ev, m, me, r, row);
         if p.answer != 0 {
             put_three(out, k, p.answer, 0, 0);
             k += 1;

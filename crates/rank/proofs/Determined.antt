@@ -3,10 +3,12 @@ use mathlib.Core.Path.{_≡_}
 use Prim.Native.Nat.{ℕ}
 use contract.Lifetimes.{Lfts}
 use Rattle.sets.proofs.Laws.Alike.{alike}
+use Rattle.rank.specs.declared.Triple.{Triple}
 use Rattle.rank.specs.declared.Rank.{Rank}
 use Rattle.rank.specs.declared.Send.{Send}
 use Rattle.rank.specs.declared.Acted.{Acted}
-use Rattle.rank.proofs.combine.Reads as combine
+use Rattle.rank.proofs.Triple.zero.Reads as zero
+use Rattle.rank.proofs.Triple.code.Reads as code
 use Rattle.rank.proofs.Send.silent.Reads as silent
 use Rattle.rank.proofs.Send.down.Reads as send-down
 use Rattle.rank.proofs.Send.ask.Reads as send-ask
@@ -17,9 +19,13 @@ use Rattle.rank.proofs.Rank.up.Reads as up
 use Rattle.rank.proofs.Rank.down.Reads as rank-down
 use Rattle.rank.proofs.Rank.ask.Reads as rank-ask
 use Rattle.rank.proofs.Rank.notice.Reads as notice
+use Rattle.rank.proofs.Rank.acknowledge.Reads as acknowledge
 
-pub combine-determined : (κs : Lfts 0) (a : _) (t u : ℕ) (x y : _) → combine.Post κs a t x → combine.Post κs a u y → t ≡ u
-combine-determined κs a t u x y e f = alike e f
+pub zero-determined : (κs : Lfts 0) (a : _) (t u : Triple) (x y : _) → zero.Post κs a t x → zero.Post κs a u y → t ≡ u
+zero-determined κs a t u x y e f = alike e f
+
+pub code-determined : (κs : Lfts 0) (a : _) (t u : ℕ) (x y : _) → code.Post κs a t x → code.Post κs a u y → t ≡ u
+code-determined κs a t u x y e f = alike e f
 
 pub silent-determined : (κs : Lfts 0) (a : _) (t u : Send) (x y : _) → silent.Post κs a t x → silent.Post κs a u y → t ≡ u
 silent-determined κs a t u x y e f = alike e f
@@ -50,3 +56,6 @@ rank-ask-determined κs a t u x y e f = alike e f
 
 pub notice-determined : (κs : Lfts 0) (a : _) (t u : Acted) (x y : _) → notice.Post κs a t x → notice.Post κs a u y → t ≡ u
 notice-determined κs a t u x y e f = alike e f
+
+pub acknowledge-determined : (κs : Lfts 0) (a : _) (t u : Acted) (x y : _) → acknowledge.Post κs a t x → acknowledge.Post κs a u y → t ≡ u
+acknowledge-determined κs a t u x y e f = alike e f

@@ -1,5 +1,5 @@
 -- All that the crates above cite of a rank.
-pub mod Words
+pub mod Triples
 pub mod Acting
 pub mod Cases
 pub mod Keeping

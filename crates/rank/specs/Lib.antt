@@ -1,4 +1,5 @@
 pub mod Words
+pub mod Triples
 pub mod Records
 pub mod Sends
 pub mod Rules

@@ -5,27 +5,29 @@ use Rattle.sets.specs.Sets.{has, only, listed, count}
 use Rattle.rank.specs.declared.Rank.{Rank}
 use Rattle.rank.specs.declared.Send.{Send}
 use Rattle.rank.specs.declared.Message.{Message}
+use Rattle.rank.specs.declared.Triple.{Triple}
 use Rattle.rank.specs.Words.{up, down, ask}
+use Rattle.rank.specs.Triples.{zeroTriple}
 
 -- Nothing is sent.
 unfoldable pub silent : Send
-silent = record { kind = 0; word = 0; to = 0 }
+silent = record { kind = 0; triple = zeroTriple; to = 0 }
 
--- UP word to q.
+-- UP triple to q.
 unfoldable pub reports : Rank → ℕ → Send
-reports r q = record { kind = up; word = r .word; to = only q }
+reports r q = record { kind = up; triple = r .triple; to = only q }
 
 -- DOWN x to each rank of the set.
-unfoldable pub tells : ℕ → ℕ → Send
-tells x to = record { kind = down; word = x; to = to }
+unfoldable pub tells : Triple → ℕ → Send
+tells x to = record { kind = down; triple = x; to = to }
 
 -- ASK each rank of the set.
 unfoldable pub asks : ℕ → Send
-asks to = record { kind = ask; word = 0; to = to }
+asks to = record { kind = ask; triple = zeroTriple; to = to }
 
 -- The messages of a send by the rank `me`, and those of all that a rule sends.
 unfoldable pub letter : ℕ → Send → ℕ → Message
-letter me s q = record { kind = s .kind; from = me; to = q; word = s .word }
+letter me s q = record { kind = s .kind; from = me; to = q; triple = s .triple }
 
 unfoldable pub letters : ℕ → Send → List Message
 letters me s = map (letter me s) (listed (has (s .to)) 64)

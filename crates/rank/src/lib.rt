@@ -8,10 +8,11 @@ ghost use lib.Dec.{eqb};
 ghost use Rattle.sets.specs.Sets.{has, none};
 ghost use Rattle.tree.specs.Tree.{flat, parent};
 ghost use Rattle.tree.specs.Calls.{mended};
-ghost use Rattle.rank.specs.Words.{combine, gathering, waiting};
-ghost use Rattle.rank.specs.Records.{awaiting, childrenOf, freshRank, parentOf, viewing};
+ghost use Rattle.rank.specs.Words.{gathering, waiting};
+ghost use Rattle.rank.specs.Triples.{closing, code, combine, freshTriple, zeroTriple};
+ghost use Rattle.rank.specs.Records.{awaiting, childrenOf, freshRank, parentOf, proposal, viewing};
 ghost use Rattle.rank.specs.Sends.{asks, reports, silent, tells};
-ghost use Rattle.rank.specs.Rules.{asked, bereaved, deciding, entering, inPhase, inheriting, noticing, orphaned, saying, settled, settling, takingAsk, takingDown, takingUp};
+ghost use Rattle.rank.specs.Rules.{acknowledging, asked, bereaved, deciding, entering, inPhase, inheriting, noticing, orphaned, saying, settled, settling, takingAsk, takingDown, takingUp};
 ghost use Rattle.rank.specs.Between.{FreshRow};
 
 // Phases.
@@ -30,15 +31,23 @@ pub const DOWN: u8 = 2;
 
 pub const ASK: u8 = 3;
 
+// What ranks vote on: a word, a set of known dead, and an acknowledged set.
+pub struct Triple {
+    pub word: u32,
+    pub known: u64,
+    pub acknowledged: u64,
+}
+
 // What a rank holds; its row of the tables travels beside it.
 pub struct Rank {
     pub phase: u8,
     pub marks: u64,
+    pub acknowledged: u64,
     pub heard: u64,
     pub awaited: u64,
     pub owed: u64,
-    pub word: u32,
-    pub result: u32,
+    pub triple: Triple,
+    pub result: Triple,
 }
 
 // One message in flight.
@@ -46,13 +55,13 @@ pub struct Message {
     pub kind: u8,
     pub from: u8,
     pub to: u8,
-    pub word: u32,
+    pub triple: Triple,
 }
 
 // One message for each rank of a set, in ascending order.
 pub struct Send {
     pub kind: u8,
-    pub word: u32,
+    pub triple: Triple,
     pub to: u64,
 }
 
@@ -71,11 +80,58 @@ pub struct Acted {
     pub moved: Moved,
 }
 
-// Two words become one.
-pub fn combine(a: u32, b: u32) -> u32
-    ensures { λ r. ⌜ r ≡ combine a b ⌝ }
-{
-    a & b
+impl Triple {
+    // All bits, no ranks, all ranks of a group of n.
+    fn fresh(n: u8) -> Triple
+        requires { ⌜ n ≤ 64 ⌝ }
+        ensures { λ r. ⌜ r ≡ freshTriple n ⌝ }
+    {
+        Triple {
+            word: 0xffff_ffff,
+            known: 0,
+            acknowledged: sets::below(n),
+        }
+    }
+
+    // All 0: what an ASK carries, and the result of a rank that has not decided.
+    pub fn zero() -> Triple
+        ensures { λ r. ⌜ r ≡ zeroTriple ⌝ }
+    {
+        Triple {
+            word: 0,
+            known: 0,
+            acknowledged: 0,
+        }
+    }
+
+    // Two triples become one.
+    fn combine(self, other: Triple) -> Triple
+        ensures { λ r. ⌜ r ≡ combine self other ⌝ }
+    {
+        Triple {
+            word: self.word & other.word,
+            known: sets::union(self.known, other.known),
+            acknowledged: sets::meet(self.acknowledged, other.acknowledged),
+        }
+    }
+
+    // The triple with a root's marks among its known dead.
+    fn close(mut self, marks: u64) -> Triple
+        ensures { λ r. ⌜ r ≡ closing marks self ⌝ }
+    {
+        self.known = sets::union(self.known, marks);
+        self
+    }
+
+    // The code of a verdict: whether a known death is missing from the acknowledged set.
+    pub fn code(self) -> u32
+        ensures { λ r. ⌜ r ≡ code self ⌝ }
+    {
+        if sets::minus(self.known, self.acknowledged) == 0 {
+            return 0;
+        }
+        1
+    }
 }
 
 impl Send {
@@ -85,18 +141,18 @@ impl Send {
     {
         Send {
             kind: 0,
-            word: 0,
+            triple: Triple::zero(),
             to: 0,
         }
     }
 
     // DOWN x to each rank of the set.
-    pub fn down(x: u32, to: u64) -> Send
+    pub fn down(x: Triple, to: u64) -> Send
         ensures { λ r. ⌜ r ≡ tells x to ⌝ }
     {
         Send {
             kind: DOWN,
-            word: x,
+            triple: x,
             to,
         }
     }
@@ -107,7 +163,7 @@ impl Send {
     {
         Send {
             kind: ASK,
-            word: 0,
+            triple: Triple::zero(),
             to,
         }
     }
@@ -122,11 +178,12 @@ impl Rank {
         Rank {
             phase: OUTSIDE,
             marks: 0,
+            acknowledged: 0,
             heard: 0,
             awaited: tree::children_of(n, 0, row, me),
             owed: 0,
-            word: 0xffff_ffff,
-            result: 0,
+            triple: Triple::fresh(n),
+            result: Triple::zero(),
         }
     }
 
@@ -140,20 +197,21 @@ impl Rank {
         }
     }
 
-    // UP word to q.
+    // UP triple to q.
     fn report(self, q: u8) -> Send
         requires { ⌜ q < 64 ⌝ }
         ensures { λ r. ⌜ r ≡ reports self q ⌝ }
     {
+        let triple = self.triple;
         Send {
             kind: UP,
-            word: self.word,
+            triple,
             to: sets::only(q),
         }
     }
 
     // Result x, phase decided, DOWN x to every unmarked rank in children or owed.
-    fn decide(mut self, n: u8, me: u8, row: [u8; 64], x: u32) -> Said
+    fn decide(mut self, n: u8, me: u8, row: [u8; 64], x: Triple) -> Said
         requires { ⌜ FreshRow flat n me self row ⌝ }
         requires { ⌜ self .awaited ≡ awaiting flat n me (self .marks) (self .heard) ⌝ }
         ensures { λ r. ⌜ r ≡ deciding flat n me x self ⌝ }
@@ -184,7 +242,8 @@ impl Rank {
         }
         let parent = row[me as usize];
         if parent == sets::NONE {
-            return self.decide(n, me, row, self.word);
+            let triple = self.triple;
+            return self.decide(n, me, row, triple.close(self.marks));
         }
         let send = self.report(parent);
         self.phase = WAITING;
@@ -209,37 +268,51 @@ impl Rank {
         }
     }
 
+    // What it proposes with word w.
+    fn propose(self, w: u32) -> Triple
+        ensures { λ r. ⌜ r ≡ proposal w self ⌝ }
+    {
+        Triple {
+            word: w,
+            known: self.marks,
+            acknowledged: self.acknowledged,
+        }
+    }
+
     // The rank enters with word w.
     pub fn enter(mut self, n: u8, me: u8, row: [u8; 64], w: u32) -> Acted
         requires { ⌜ FreshRow flat n me self row ⌝ }
         requires { ⌜ self .awaited ≡ awaiting flat n me (self .marks) (self .heard) ⌝ }
         ensures { λ r. ⌜ r ≡ entering flat n me w self ⌝ }
     {
-        self.word = combine(self.word, w);
+        let triple = self.triple;
+        self.triple = triple.combine(self.propose(w));
         self.phase = GATHERING;
         self.settle(n, me, row, Send::silent(), Moved::nobody())
     }
 
     // UP x from q.
-    pub fn up(mut self, n: u8, me: u8, row: [u8; 64], q: u8, x: u32) -> Acted
+    pub fn up(mut self, n: u8, me: u8, row: [u8; 64], q: u8, x: Triple) -> Acted
         requires { ⌜ FreshRow flat n me self row ⌝ }
         requires { ⌜ self .awaited ≡ awaiting flat n me (self .marks) (self .heard) ⌝ }
         requires { ⌜ q < n ⌝ }
         ensures { λ r. ⌜ r ≡ takingUp flat n me q x self ⌝ }
     {
         if self.phase == DECIDED {
-            let told = Send::down(self.result, sets::only(q));
+            let result = self.result;
+            let told = Send::down(result, sets::only(q));
             return self.settle(n, me, row, told, Moved::nobody());
         }
         self.heard = sets::with(self.heard, q);
         self.owed = sets::with(self.owed, q);
         self.awaited = sets::minus(self.awaited, sets::only(q));
-        self.word = combine(self.word, x);
+        let triple = self.triple;
+        self.triple = triple.combine(x);
         self.settle(n, me, row, Send::silent(), Moved::nobody())
     }
 
     // DOWN x.
-    pub fn down(self, n: u8, me: u8, row: [u8; 64], x: u32) -> Acted
+    pub fn down(self, n: u8, me: u8, row: [u8; 64], x: Triple) -> Acted
         requires { ⌜ FreshRow flat n me self row ⌝ }
         requires { ⌜ self .awaited ≡ awaiting flat n me (self .marks) (self .heard) ⌝ }
         ensures { λ r. ⌜ r ≡ takingDown flat n me x self ⌝ }
@@ -304,9 +377,10 @@ impl Rank {
         ensures { λ r. ⌜ r ≡ asked flat n me q self ⌝ }
     {
         if self.phase == DECIDED {
+            let result = self.result;
             return Said {
                 rank: self,
-                send: Send::down(self.result, sets::only(q)),
+                send: Send::down(result, sets::only(q)),
             };
         }
         self.owed = sets::with(self.owed, q);
@@ -425,6 +499,21 @@ impl Rank {
         Said {
             rank: seen,
             send: Send::ask(gained),
+        }
+    }
+
+    // The acknowledged set becomes the marks.
+    pub fn acknowledge(mut self, n: u8, me: u8, row: [u8; 64]) -> Acted
+        requires { ⌜ FreshRow flat n me self row ⌝ }
+        ensures { λ r. ⌜ r ≡ acknowledging flat n me self ⌝ }
+    {
+        self.acknowledged = self.marks;
+        Acted {
+            rank: self,
+            row,
+            first: Send::silent(),
+            second: Send::silent(),
+            moved: Moved::nobody(),
         }
     }
 }

@@ -2,10 +2,12 @@
 use super::script::Command;
 use super::show::show;
 use rank::Rank;
+use rank::Triple;
+ghost use Prim.Native.Nat.{_<_};
 
 fn number(c: Command, k: u8) -> u32 {
     let numbers = c.numbers;
-    numbers[(k % 10) as usize]
+    numbers[(k % 17) as usize]
 }
 
 fn small(c: Command, k: u8) -> u8 {
@@ -16,21 +18,34 @@ fn set(c: Command, k: u8) -> u64 {
     number(c, k) as u64
 }
 
-// The rank that a command describes; its awaited set is still to come.
-fn described(c: Command) -> Rank {
-    Rank {
-        phase: small(c, 4),
-        marks: set(c, 5),
-        heard: set(c, 6),
-        awaited: 0,
-        owed: set(c, 7),
-        word: number(c, 8),
-        result: number(c, 9),
+// Three numbers from the k-th on.
+fn triple(c: Command, k: u8) -> Triple
+    requires { ⌜ k < 17 ⌝ }
+{
+    Triple {
+        word: number(c, k),
+        known: set(c, k + 1),
+        acknowledged: set(c, k + 2),
     }
 }
 
-// Runs a rule on rank `me` of n, whose awaited set and whose row are the fresh ones: enter, up, down, ask, or a notice.
-fn act(before: Rank, n: u8, me: u8, rule: u8, q: u8, x: u32) {
+// The rank that a command describes; its awaited set is still to come.
+fn described(c: Command) -> Rank {
+    Rank {
+        phase: small(c, 6),
+        marks: set(c, 7),
+        acknowledged: set(c, 8),
+        heard: set(c, 9),
+        awaited: 0,
+        owed: set(c, 10),
+        triple: triple(c, 11),
+        result: triple(c, 14),
+    }
+}
+
+// Runs a rule on rank `me` of n, whose awaited set and whose row are the fresh ones: enter, up, down, ask, a notice, or with k
+// acknowledge.
+fn act(before: Rank, n: u8, me: u8, rule: u8, q: u8, x: Triple) {
     if 64 < n {
         return;
     }
@@ -44,23 +59,25 @@ fn act(before: Rank, n: u8, me: u8, rule: u8, q: u8, x: u32) {
     let mut r = before;
     r.awaited = sets::minus(tree::children_of(n, r.marks, row, me), r.heard);
     let a = match rule {
-        b'e' => r.enter(n, me, row, x),
+        b'e' => r.enter(n, me, row, x.word),
         b'u' => r.up(n, me, row, q, x),
         b'd' => r.down(n, me, row, x),
         b'a' => r.ask(n, me, row, q),
+        b'k' => r.acknowledge(n, me, row),
         _ => r.notice(n, me, row, q),
     };
     show(a);
 }
 
-// A command: the rule's letter, q and x; me, n, the phase, the marks, heard, owed, word and result.
+// A command: the rule's letter, q and the triple x, whose word an enter takes; me, n, the phase, the marks, the acknowledged set,
+// heard, owed, the triple and the result.
 pub fn obey(c: Command) {
     act(
         described(c),
-        small(c, 3),
-        small(c, 2),
+        small(c, 5),
+        small(c, 4),
         c.letter,
         small(c, 0),
-        number(c, 1),
+        triple(c, 1),
     );
 }

@@ -5,7 +5,7 @@ use super::show::text;
 pub struct Command {
     pub open: bool,
     pub letter: u8,
-    pub numbers: [u32; 10],
+    pub numbers: [u32; 17],
     pub count: u8,
     pub inside: bool,
 }
@@ -14,7 +14,7 @@ pub fn begin(open: bool) -> Command {
     Command {
         open,
         letter: 0,
-        numbers: [0; 10],
+        numbers: [0; 17],
         count: 0,
         inside: false,
     }
@@ -33,7 +33,7 @@ fn longer(n: u32, b: u8) -> u32 {
 fn digit(c: Command, b: u8) -> Command {
     let mut r = c;
     let mut numbers = c.numbers;
-    let at = (c.count % 10) as usize;
+    let at = (c.count % 17) as usize;
     numbers[at] = longer(numbers[at], b);
     r.numbers = numbers;
     r.inside = true;

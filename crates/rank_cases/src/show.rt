@@ -3,6 +3,7 @@ use libc::STDOUT_FILENO;
 use rank::Acted;
 use rank::Rank;
 use rank::Send;
+use rank::Triple;
 
 pub fn text(bytes: &[u8]) {
     io::write_all(STDOUT_FILENO, bytes);
@@ -37,6 +38,13 @@ fn set(name: &[u8], w: u64) {
     text(b" }");
 }
 
+// A triple after its name: its word, its known dead and its acknowledged set.
+fn triple(name: &[u8], t: Triple) {
+    number(name, t.word);
+    set(b" {", t.known);
+    set(b" {", t.acknowledged);
+}
+
 fn kind(k: u8) {
     match k {
         1 => text(b"UP "),
@@ -49,12 +57,14 @@ fn kind(k: u8) {
 fn send(name: &[u8], s: Send) {
     text(name);
     kind(s.kind);
-    number(b"", s.word);
-    set(b" {", s.to);
+    let carried = s.triple;
+    triple(b"", carried);
+    set(b" to {", s.to);
 }
 
 fn sets_of(r: Rank) {
     set(b" marks {", r.marks);
+    set(b" acknowledged {", r.acknowledged);
     set(b" heard {", r.heard);
     set(b" awaited {", r.awaited);
     set(b" owed {", r.owed);
@@ -63,8 +73,10 @@ fn sets_of(r: Rank) {
 fn record(r: Rank) {
     number(b"  phase ", r.phase as u32);
     sets_of(r);
-    number(b" word ", r.word);
-    number(b" result ", r.result);
+    let own = r.triple;
+    triple(b" triple ", own);
+    let result = r.result;
+    triple(b" result ", result);
 }
 
 pub fn show(a: Acted) {

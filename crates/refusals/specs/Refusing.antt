@@ -8,15 +8,15 @@ use Rattle.rank.specs.declared.Rank.{Rank}
 use Rattle.rank.specs.declared.Message.{Message}
 use Rattle.rank.specs.Words.{outside}
 use Rattle.events.specs.declared.Event.{Event}
-use Rattle.events.specs.Events.{enters, crashes, notices, loses, namesRank, namesPlace}
+use Rattle.events.specs.Events.{enters, crashes, notices, loses, acknowledges, namesRank, namesPlace}
 
--- 3: kind not 1 to 5, or b not 0 where it must be: for kinds 2, 3 and 5.
+-- 3: kind not 1 to 6, or b not 0 where it must be: for kinds 2, 3, 5 and 6.
 unfoldable pub wrongKind : Event → Bool
 wrongKind ev =
     not (namesRank (ev .kind) || namesPlace (ev .kind))
-    || (namesPlace (ev .kind) || eqb (ev .kind) crashes) && not (eqb (ev .b) 0)
+    || (namesPlace (ev .kind) || eqb (ev .kind) crashes || eqb (ev .kind) acknowledges) && not (eqb (ev .b) 0)
 
--- 4: a rank number (a for kinds 1, 3, 4; b for kind 4) is not below n.
+-- 4: a rank number (a for kinds 1, 3, 4, 6; b for kind 4) is not below n.
 unfoldable pub wrongRank : ℕ → Event → Bool
 wrongRank n ev = namesRank (ev .kind) && leb n (ev .a) || eqb (ev .kind) notices && leb n (ev .b)
 
@@ -24,13 +24,13 @@ wrongRank n ev = namesRank (ev .kind) && leb n (ev .a) || eqb (ev .kind) notices
 unfoldable pub noMessage : ℕ → Event → Bool
 noMessage count ev = namesPlace (ev .kind) && leb count (ev .a)
 
--- 6: kind 1, 3 or 4 and rank a is dead.
+-- 6: kind 1, 3, 4 or 6 and rank a is dead.
 unfoldable pub isDead : ℕ → Event → Bool
 isDead dead ev = namesRank (ev .kind) && has dead (ev .a)
 
--- 7: kind 1 and a is not outside.
+-- 7: kind 1 or 6 and a is not outside.
 unfoldable pub notOutside : Event → Rank → Bool
-notOutside ev r = eqb (ev .kind) enters && not (eqb (r .phase) outside)
+notOutside ev r = (eqb (ev .kind) enters || eqb (ev .kind) acknowledges) && not (eqb (r .phase) outside)
 
 -- 8: kind 4 and b is living.
 unfoldable pub isLiving : ℕ → Event → Bool

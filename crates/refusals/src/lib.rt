@@ -1,4 +1,5 @@
 // Refusals 3 to 10 of an event: only what can apply to its kind is tested, and the lowest that applies is given.
+use events::ACKNOWLEDGES;
 use events::CRASHES;
 use events::ENTERS;
 use events::Event;
@@ -31,7 +32,8 @@ fn wrong_kind(ev: Event) -> bool
     ensures { λ r. ⌜ r ≡ wrongKind ev ⌝ }
 {
     !(events::names_rank(ev.kind) | events::names_place(ev.kind))
-        | ((events::names_place(ev.kind) | (ev.kind == CRASHES)) & !(ev.b == 0))
+        | ((events::names_place(ev.kind) | (ev.kind == CRASHES) | (ev.kind == ACKNOWLEDGES))
+            & !(ev.b == 0))
 }
 
 fn wrong_rank(n: u8, ev: Event) -> bool
@@ -51,8 +53,8 @@ fn of_loss(dead: u64, m: Message) -> u32
     0
 }
 
-// 7 where a rank that is to enter is not outside, or 0.
-fn of_enter(r: Rank) -> u32
+// 7 where a rank that is to enter or to acknowledge is not outside, or 0.
+fn of_outside(r: Rank) -> u32
     ensures { λ t. ⌜ t ≡ cond (not (eqb (r .phase) outside)) entered accepted ⌝ }
 {
     if !(r.phase == OUTSIDE) {
@@ -110,8 +112,8 @@ fn of_rank(n: u8, dead: u64, ev: Event, r: Rank) -> u32
     if sets::member(dead, ev.a as u8) {
         return 6;
     }
-    if ev.kind == ENTERS {
-        return of_enter(r);
+    if (ev.kind == ENTERS) | (ev.kind == ACKNOWLEDGES) {
+        return of_outside(r);
     }
     if ev.kind == NOTICES {
         return of_notice(dead, ev.b as u8);

@@ -4,12 +4,13 @@ use mathlib.Core.List.{List, []}
 use lib.ListN.{getD, take}
 use Rattle.rank.specs.declared.Rank.{Rank}
 use Rattle.rank.specs.declared.Message.{Message}
+use Rattle.rank.specs.Triples.{zeroTriple}
 use Rattle.net.specs.Net.{zeroMessage}
 use Rattle.state.specs.declared.Group.{Group}
 use Rattle.state.specs.declared.State.{State}
 
 abbrev pub zeroRank : Rank
-zeroRank = record { phase = 0; marks = 0; heard = 0; awaited = 0; owed = 0; word = 0; result = 0 }
+zeroRank = record { phase = 0; marks = 0; acknowledged = 0; heard = 0; awaited = 0; owed = 0; triple = zeroTriple; result = zeroTriple }
 
 abbrev pub joined : Group → List (List ℕ) → State
 joined g t = record { group = g; tables = t }

@@ -1,17 +1,19 @@
 // A state: the group record with the tables beside it. The entry point for callers is start; it refuses bad input and requires nothing.
 use rank::Message;
 use rank::Rank;
+use rank::Triple;
 ghost use mathlib.Core.Path.{_≡_};
 ghost use Prim.Native.Nat.{_≤_};
 ghost use Rattle.tree.specs.Tree.{flat, fresh, row};
 ghost use Rattle.state.specs.States.{joined, zeroRank};
 ghost use Rattle.state.specs.Starting.{firstRank, firstRow, started};
 
-// The group record: its size, the dead, the messages in flight and the ranks.
+// The group record: its size, how many messages are in flight, the dead, the ranks and the messages. The two small fields come first, so that no
+// gap lies beside an array.
 pub struct Group {
     pub n: u8,
-    pub dead: u64,
     pub count: u8,
+    pub dead: u64,
     pub ranks: [Rank; 64],
     pub net: [Message; 128],
 }
@@ -48,11 +50,12 @@ fn no_rank() -> Rank
     Rank {
         phase: 0,
         marks: 0,
+        acknowledged: 0,
         heard: 0,
         awaited: 0,
         owed: 0,
-        word: 0,
-        result: 0,
+        triple: Triple::zero(),
+        result: Triple::zero(),
     }
 }
 

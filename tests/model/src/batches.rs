@@ -1,9 +1,9 @@
 //! Request 2026-07, events by the handful, on a state that is lent; and every number that such a state holds.
 
-use crate::cases::word;
 use crate::group::{Event, Group, Message};
 use crate::rank::{Body, Rank};
-use crate::tree::children;
+use crate::tree::{children, word};
+use crate::triple::Triple;
 use crate::views::{fresh, Table, NONE};
 use std::array::from_fn;
 
@@ -68,7 +68,7 @@ struct Plain {
     dead: u64,
     count: u32,
     ranks: [Record; 64],
-    net: [[u32; 4]; 128],
+    net: [[u32; 8]; 128],
     tables: [Table; 64],
 }
 
@@ -76,31 +76,38 @@ struct Plain {
 struct Record {
     phase: u32,
     marks: u64,
+    acknowledged: u64,
     heard: u64,
     awaited: u64,
     owed: u64,
-    word: u32,
-    result: u32,
+    triple: Triple,
+    result: Triple,
 }
 
 fn halves(x: u64) -> [u32; 2] {
     [x as u32, (x >> 32) as u32]
 }
 
+fn three(t: Triple) -> [u32; 5] {
+    let ([k, known], [a, acknowledged]) = (halves(t.known), halves(t.acknowledged));
+    [t.word, k, known, a, acknowledged]
+}
+
 /// Awaited are the children that have not been heard.
 fn record(n: u32, me: u32, r: &Rank) -> Record {
     let awaited = children(n, &r.marks, me).difference(&r.heard).copied().collect();
-    let [marks, heard, awaited, owed] = [&r.marks, &r.heard, &awaited, &r.owed].map(word);
-    Record { phase: r.phase as u32, marks, heard, awaited, owed, word: r.word, result: r.result }
+    let [marks, acknowledged, heard, awaited, owed] = [&r.marks, &r.acknowledged, &r.heard, &awaited, &r.owed].map(word);
+    Record { phase: r.phase as u32, marks, acknowledged, heard, awaited, owed, triple: r.triple, result: r.result }
 }
 
-fn message(m: &Message) -> [u32; 4] {
-    let (kind, word) = match m.body {
+fn message(m: &Message) -> [u32; 8] {
+    let (kind, triple) = match m.body {
         Body::Up(x) => (1, x),
         Body::Down(x) => (2, x),
-        Body::Ask => (3, 0),
+        Body::Ask => (3, Triple::default()),
     };
-    [kind, m.from, m.to, word]
+    let [word, k, known, a, acknowledged] = three(triple);
+    [kind, m.from, m.to, word, k, known, a, acknowledged]
 }
 
 impl Plain {
@@ -112,7 +119,7 @@ impl Plain {
             dead: word(&g.dead),
             count: g.net.len() as u32,
             ranks: from_fn(|me| g.ranks.get(me).map_or(Record::default(), |r| record(g.n, me as u32, r))),
-            net: from_fn(|place| g.net.get(place).map_or([0; 4], message)),
+            net: from_fn(|place| g.net.get(place).map_or([0; 8], message)),
             tables: from_fn(|me| g.ranks.get(me).map_or(nobody, |r| fresh(g.n, &r.marks))),
         }
     }
@@ -122,8 +129,8 @@ impl Plain {
             1 => self.count = 200,
             2 => self.dead = u64::MAX,
             3 => self.ranks[0].marks = u64::MAX,
-            4 => self.ranks[63].result = 1,
-            5 => self.net[127] = [4, 0, 1, 0],
+            4 => self.ranks[63].result.word = 1,
+            5 => self.net[127] = [4, 0, 1, 0, 0, 0, 0, 0],
             6 => self.tables[63][63] = 64,
             7 => self.n = 65,
             _ => {}
@@ -135,8 +142,8 @@ impl Plain {
         let mut all = vec![self.n, low, high, self.count];
         for r in &self.ranks {
             all.push(r.phase);
-            all.extend([r.marks, r.heard, r.awaited, r.owed].map(halves).concat());
-            all.extend([r.word, r.result]);
+            all.extend([r.marks, r.acknowledged, r.heard, r.awaited, r.owed].map(halves).concat());
+            all.extend([r.triple, r.result].map(three).concat());
         }
         all.extend(self.net.concat());
         all.extend(self.tables.concat().iter().map(|entry| *entry as u32));
@@ -169,6 +176,21 @@ mod tests {
         assert_eq!(parts.numbers(), lent.numbers());
     }
 
+    /// The numbers of messages: an UP carries its sender's triple, an ASK's is all 0, whatever its sender holds.
+    #[test]
+    fn messages() {
+        let mut group = Group::start(4);
+        let mut sent = |events: &[(u32, u32, u32)]| {
+            for (kind, a, b) in events {
+                assert_eq!(group.event(Event { kind: *kind, a: *a, b: *b }).number, 0);
+            }
+            group.net.iter().map(message).collect::<Vec<_>>()
+        };
+        assert_eq!(sent(&[(3, 3, 0), (4, 2, 3), (6, 2, 0), (1, 2, 7)]), [[1, 2, 1, 7, 8, 0, 8, 0]]);
+        assert_eq!(sent(&[(4, 1, 3), (1, 1, 6), (2, 0, 0)]), [[1, 1, 0, 6, 8, 0, 0, 0]]);
+        assert_eq!(sent(&[(3, 0, 0), (5, 0, 0), (4, 1, 0)]), [[3, 1, 2, 0, 0, 0, 0, 0]]);
+    }
+
     /// A refused call changes nothing, and 40 comes before 41.
     #[test]
     fn refused_calls() {
@@ -195,8 +217,9 @@ mod tests {
     #[test]
     fn numbers() {
         let (start, nobody) = (Lent::start(3, 0).numbers(), Lent::start(0, 0).numbers());
-        assert_eq!(start.len(), 4 + 64 * 11 + 128 * 4 + 64 * 64);
-        assert_eq!(start[..15], [3, 0, 0, 0, 0, 0, 0, 0, 0, 2, 0, 0, 0, u32::MAX, 0]);
+        assert_eq!(start.len(), 4 + 64 * 21 + 128 * 8 + 64 * 64);
+        let first = [0, 0, 0, 0, 0, 0, 0, 2, 0, 0, 0, u32::MAX, 0, 0, 7, 0, 0, 0, 0, 0, 0];
+        assert_eq!((&start[..4], &start[4..25]), (&[3, 0, 0, 0][..], &first[..]));
         assert!(nobody.iter().all(|x| *x == 0));
         for hand in 1..=7 {
             assert_ne!(Lent::start(3, hand).numbers(), start);

@@ -5,7 +5,7 @@
 //!     mark N MARKS RANK T0 .. T63      mark NUMBER MARKS COUNT T0 .. T63
 //!     who N MARKS RANK T0 .. T63       who NUMBER COUNT RANKS, of the same mark
 
-use crate::tree::Set;
+use crate::tree::{set, word};
 use crate::views::{climb, mark, Table};
 
 #[derive(Clone, Copy, PartialEq, Debug)]
@@ -13,14 +13,6 @@ pub enum Case {
     Climb { n: u32, marks: u64, p: u32, allowance: u32 },
     Mark { n: u32, marks: u64, q: u32, table: Table },
     Who { n: u32, marks: u64, q: u32, table: Table },
-}
-
-pub fn set(word: u64) -> Set {
-    (0..64).filter(|r| word >> r & 1 == 1).collect()
-}
-
-pub fn word(set: &Set) -> u64 {
-    set.iter().map(|r| 1 << r).sum()
 }
 
 fn spaced(table: &Table) -> String {
@@ -95,12 +87,6 @@ pub fn answers(cases: &[Case]) -> String {
 #[cfg(test)]
 mod tests {
     use super::*;
-
-    #[test]
-    fn words_and_sets() {
-        assert_eq!(set(0b1001 | 1 << 63), Set::from([0, 3, 63]));
-        assert_eq!(word(&set(u64::MAX)), u64::MAX);
-    }
 
     #[test]
     fn example_7() {

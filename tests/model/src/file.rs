@@ -1,4 +1,4 @@
-//! Document 01, "Schedule file and its listing".
+//! Document 01, "Schedule file and its listing", with the code of request 2026-08.
 
 use crate::group::{Event, Group};
 use crate::rank::Phase;
@@ -58,8 +58,8 @@ pub fn listing(bytes: &[u8]) -> String {
     }
     for r in 0..n {
         let rank = &group.ranks[r as usize];
-        let result = if rank.phase == Phase::Decided { rank.result.to_string() } else { "-".to_string() };
-        text += &format!("r {r} {} {} {result}\n", group.lives(r) as u8, rank.phase as u8);
+        let verdict = if rank.phase == Phase::Decided { format!("{} {}", rank.result.word, rank.result.code()) } else { "- -".to_string() };
+        text += &format!("r {r} {} {} {verdict}\n", group.lives(r) as u8, rank.phase as u8);
     }
     text + &format!("m {}\n", group.net.len())
 }
@@ -78,7 +78,7 @@ mod tests {
         ];
         let events: Vec<Event> = events.iter().map(|(kind, a, b)| Event { kind: *kind, a: *a, b: *b }).collect();
         let wanted = "agr 1 3 12\n0 0 1 0\n1 0 0 0\n2 0 0 0\n3 0 1 0\n4 0 1 0\n5 0 0 0\n6 0 1 1\n7 0 0 0\n8 0 1 1\n\
-                      9 0 1 0\n10 0 1 0\n11 8 0 0\nr 0 0 3 4\nr 1 1 3 6\nr 2 1 3 6\nm 1\n";
+                      9 0 1 0\n10 0 1 0\n11 8 0 0\nr 0 0 3 4 0\nr 1 1 3 6 1\nr 2 1 3 6 1\nm 1\n";
         assert_eq!(listing(&write(3, &events)), wanted);
     }
 
@@ -92,7 +92,8 @@ mod tests {
     fn examples() {
         let orders = ["inner_first", "leaf_first", "parent_first", "root_first"];
         let others = ["three", "broken_middle", "root_dies", "two_roots", "sixty_four", "reporter_hangs"];
-        for name in others.iter().chain(&orders) {
+        let verdicts = ["late_root", "told_since", "nobody_acknowledged", "acknowledged", "unacknowledged"];
+        for name in others.iter().chain(&orders).chain(&verdicts) {
             let bytes = std::fs::read(format!("{EXAMPLES}/{name}.agr")).expect("a schedule");
             assert_eq!(written(&example(&format!("{name}.events"))), Ok(bytes.clone()), "{name}");
             assert_eq!(listing(&bytes), example(&format!("{name}.listing")), "{name}");

@@ -1,5 +1,5 @@
-//! A second opinion on schedules, batches, marks, climbs and pictures, written from document 01 and requests 2026-01, 2026-03, 2026-04, 2026-06
-//! and 2026-07 alone.
+//! A second opinion on schedules, batches, marks, climbs and pictures, written from document 01 and requests 2026-01, 2026-03, 2026-04, 2026-06,
+//! 2026-07 and 2026-08 alone.
 //!
 //!     model listing < FILE                     the listing that FILE must have
 //!     model write [EVENTS] > FILE              the schedule that a text describes (events.rs)
@@ -39,6 +39,7 @@ mod random_views;
 mod rank;
 mod script;
 mod tree;
+mod triple;
 mod views;
 
 use random::{limits, schedule, Random};

@@ -56,7 +56,8 @@ pub fn two_orders(random: &mut Random, n: u32, events: &[Event]) -> Option<Order
 mod tests {
     use super::*;
 
-    /// Every event that could be accepted; all enter with the same word, as no count hangs on it.
+    /// Every event that could be accepted, but for those of kind 6, which move and send nothing; all enter with the same word, as no count
+    /// hangs on it.
     fn events(group: &Group) -> Vec<Event> {
         let places = group.net.len() as u32;
         let of = |kind, count: u32, b| (0..count).map(move |a| Event { kind, a, b });

@@ -4,10 +4,10 @@
 //!     write N MARKS ROOM                 write NUMBER LENGTH, and the lent buffer, which held dots, on lines of its own
 //!     read LENGTH, and so many bytes     read NUMBER SIZE MARKS
 
-use crate::cases::{set, word};
 use crate::pictures::{picture, read, write};
 use crate::random::Random;
 use crate::random_views::{size, view, with_outside};
+use crate::tree::{set, word};
 
 #[derive(Clone, PartialEq, Debug)]
 pub enum Case {

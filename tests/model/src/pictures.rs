@@ -143,7 +143,7 @@ mod tests {
         let mut seen = std::collections::BTreeSet::new();
         for n in 1..=6 {
             for word in 0..(1u64 << n) - 1 {
-                let marks = crate::cases::set(word);
+                let marks = crate::tree::set(word);
                 let text = picture(n, &marks);
                 assert_eq!(read(text.as_bytes()), Some((n, marks)));
                 assert!(seen.insert(text));

@@ -1,8 +1,9 @@
-//! Random schedules from a seed: runs as they happen, runs with many deaths, garbage, damaged files.
+//! Random schedules from a seed: runs as they happen, with few deaths or many, or with deaths before anybody enters; garbage, damaged files.
 
 use crate::file::{write, MOST};
 use crate::group::{Event, Group, ROOM};
 use crate::rank::Phase;
+use std::collections::BTreeSet;
 
 /// A small generator of numbers, so that a seed means the same everywhere.
 pub struct Random(u64);
@@ -49,10 +50,11 @@ impl Random {
     }
 }
 
-/// How a run is played: one crash in so many events, one notice, and whether messages keep their order.
+/// How a run is played: one crash in so many events, one notice, one acknowledging, and whether messages keep their order.
 struct Manner {
     crash: u32,
     notice: u32,
+    acknowledge: u32,
     reorder: bool,
 }
 
@@ -75,6 +77,13 @@ fn likely(random: &mut Random, g: &Group, manner: &Manner) -> Option<Event> {
     if random.one_in(manner.notice) || (outside.is_empty() && g.net.is_empty()) {
         if let Some((a, b)) = random.pick(&notices) {
             return Some(Event { kind: 4, a, b });
+        }
+    }
+    if random.one_in(manner.acknowledge) {
+        let behind = |a: &u32| g.ranks[*a as usize].acknowledged != g.ranks[*a as usize].marks;
+        let behind: Vec<u32> = outside.iter().copied().filter(behind).collect();
+        if let Some(a) = random.pick(&behind) {
+            return Some(Event { kind: 6, a, b: 0 });
         }
     }
     if random.one_in(3) || g.net.is_empty() {
@@ -106,9 +115,29 @@ fn garbage(random: &mut Random, g: &Group) -> Event {
     Event { kind, a, b }
 }
 
+/// Three deaths at most before anybody enters, told to every living rank. All of the living acknowledge them, or all but one.
+fn deaths_first(random: &mut Random, n: u32) -> Vec<Event> {
+    let dead: BTreeSet<u32> = (0..random.below(4)).map(|_| random.below(n)).take(n as usize - 1).collect();
+    let living: Vec<u32> = (0..n).filter(|a| !dead.contains(a)).collect();
+    let silent = if random.one_in(2) { random.pick(&living) } else { None };
+    let crashes = dead.iter().map(|a| Event { kind: 3, a: *a, b: 0 });
+    let notices = living.iter().flat_map(|a| dead.iter().map(|b| Event { kind: 4, a: *a, b: *b }));
+    let acknowledging = living.iter().filter(|a| silent != Some(**a)).map(|a| Event { kind: 6, a: *a, b: 0 });
+    crashes.chain(notices).chain(acknowledging).collect()
+}
+
 fn played(random: &mut Random, n: u32, most: usize, manner: &Manner, mess: u32) -> Vec<Event> {
+    continued(random, n, Vec::new(), most, manner, mess)
+}
+
+/// These events, and then so many at most.
+fn continued(random: &mut Random, n: u32, first: Vec<Event>, most: usize, manner: &Manner, mess: u32) -> Vec<Event> {
     let mut g = Group::start(n);
-    let mut events = Vec::new();
+    let mut events = first;
+    for e in &events {
+        g.event(*e);
+    }
+    let most = events.len() + most;
     while events.len() < most {
         let e = if mess > 0 && random.one_in(mess) { Some(garbage(random, &g)) } else { likely(random, &g, manner) };
         let Some(e) = e else { break };
@@ -141,7 +170,7 @@ fn crowded(random: &mut Random) -> Vec<Event> {
 /// A file that may not even begin like one.
 fn damaged(random: &mut Random) -> Vec<u8> {
     let n = random.size();
-    let manner = Manner { crash: 10, notice: 4, reorder: true };
+    let manner = Manner { crash: 10, notice: 4, acknowledge: 6, reorder: true };
     let mut bytes = write(n as u8, &played(random, n, 20, &manner, 5));
     match random.below(7) {
         0 => bytes.truncate(random.below(7) as usize),
@@ -170,7 +199,7 @@ fn longest(random: &mut Random, n: u32, manner: &Manner) -> Vec<Event> {
 
 /// Files at the limits: no bytes, six bytes, the most events, and one byte more.
 pub fn limits(random: &mut Random) -> [Vec<u8>; 4] {
-    let stormy = Manner { crash: 20, notice: 4, reorder: true };
+    let stormy = Manner { crash: 20, notice: 4, acknowledge: 6, reorder: true };
     let full = write(64, &longest(random, 64, &stormy));
     let over = [&full[..], &[0]].concat();
     [Vec::new(), write(64, &[]), full, over]
@@ -179,10 +208,14 @@ pub fn limits(random: &mut Random) -> [Vec<u8>; 4] {
 /// One schedule file.
 pub fn schedule(random: &mut Random) -> Vec<u8> {
     let n = random.size();
-    let calm = Manner { crash: 60, notice: 6, reorder: random.one_in(2) };
-    let stormy = Manner { crash: 6, notice: 2 + random.below(20), reorder: true };
+    let calm = Manner { crash: 60, notice: 6, acknowledge: 8, reorder: random.one_in(2) };
+    let stormy = Manner { crash: 6, notice: 2 + random.below(20), acknowledge: 4, reorder: true };
     let events = match random.below(64) {
-        0..=19 => played(random, n, 400, &calm, 0),
+        0..=13 => played(random, n, 400, &calm, 0),
+        14..=19 => {
+            let first = deaths_first(random, n);
+            continued(random, n, first, 400, &calm, 0)
+        }
         20..=39 => played(random, n, 600, &stormy, 0),
         40..=47 => played(random, n, 300, &stormy, 4),
         48..=51 => played(random, n, 60, &calm, 1),
@@ -197,13 +230,22 @@ pub fn schedule(random: &mut Random) -> Vec<u8> {
 #[cfg(test)]
 mod tests {
     use super::*;
+    use crate::file::read;
+    use crate::rank::{Body, Rank};
+    use crate::tree::word;
+    use crate::triple::Triple;
+
+    fn any_manner(random: &mut Random) -> Manner {
+        let [crash, notice] = [3 + random.below(40), 2 + random.below(20)];
+        Manner { crash, notice, acknowledge: 2 + random.below(10), reorder: random.one_in(2) }
+    }
 
     /// Request 2026-04: when nothing is left to do, every living rank has decided.
     #[test]
     fn nobody_hangs() {
         for seed in 0..100 {
             let random = &mut Random::new(seed);
-            let manner = Manner { crash: 3 + random.below(40), notice: 2 + random.below(20), reorder: random.one_in(2) };
+            let manner = any_manner(random);
             let mut g = Group::start(random.size());
             while let Some(e) = likely(random, &g, &manner) {
                 g.event(e);
@@ -215,32 +257,86 @@ mod tests {
         }
     }
 
-    /// The living that have decided hold one result, and it is the AND of the words entered by a set with every living rank in it. If there
-    /// is such a set, then one is: the living, and every dead rank whose word lets the result through.
-    fn agree(g: &Group, words: &[Option<u32>]) -> bool {
-        let mut results = g.ranks.iter().zip(0..).filter(|(r, a)| g.lives(*a) && r.phase == Phase::Decided).map(|(r, _)| r.result);
-        let Some(result) = results.next() else { return true };
-        let member = |a: &u32| g.lives(*a) || words[*a as usize].is_some_and(|w| w & result == result);
-        let and = (0..g.n).filter(member).try_fold(u32::MAX, |and, a| Some(and & words[a as usize]?));
-        results.all(|r| r == result) && and == Some(result)
+    /// A run with what each rank proposed when it entered, and the marks of each root when it settled.
+    struct Watched {
+        g: Group,
+        proposals: Vec<Option<Triple>>,
+        roots: Vec<u64>,
     }
 
-    /// Request 2026-05, after every event of many small runs. Each rank's word has its own bit off, so that a result shows its set.
+    impl Watched {
+        fn start(n: u32) -> Watched {
+            Watched { g: Group::start(n), proposals: vec![None; n as usize], roots: Vec::new() }
+        }
+
+        fn decided(&self) -> Vec<bool> {
+            self.g.ranks.iter().map(|r| r.phase == Phase::Decided).collect()
+        }
+
+        /// Who decides otherwise than by a DOWN settles as a root.
+        fn event(&mut self, e: Event) -> u32 {
+            if e.kind == 1 {
+                let Rank { marks, acknowledged, .. } = &self.g.ranks[e.a as usize];
+                self.proposals[e.a as usize] = Some(Triple { word: e.b, known: word(marks), acknowledged: word(acknowledged) });
+            }
+            let down = e.kind == 2 && matches!(self.g.net[e.a as usize].body, Body::Down(_));
+            let before = self.decided();
+            let number = self.g.event(e).number;
+            let fresh = self.g.ranks.iter().zip(before).filter(|(r, before)| r.phase == Phase::Decided && !before && !down);
+            self.roots.extend(fresh.map(|(r, _)| word(&r.marks)));
+            number
+        }
+
+        /// The living that have decided hold one result: the proposals of a set with every living rank in it combined, and the marks of a root.
+        /// If there is such a set, then one is: the living, and every dead rank whose word lets the result through.
+        fn agree(&self) -> bool {
+            let living = self.g.ranks.iter().zip(0..).filter(|(_, a)| self.g.lives(*a));
+            let mut results = living.filter(|(r, _)| r.phase == Phase::Decided).map(|(r, _)| r.result);
+            let Some(result) = results.next() else { return true };
+            let member = |a: &u32| self.g.lives(*a) || self.proposals[*a as usize].is_some_and(|t| t.word & result.word == result.word);
+            let mut members = (0..self.g.n).filter(member);
+            let all = members.try_fold(Triple::fresh(self.g.n), |all, a| Some(all.combined(self.proposals[a as usize]?)));
+            results.all(|r| r == result) && all.is_some_and(|all| self.roots.iter().any(|marks| all.knowing(*marks) == result))
+        }
+    }
+
+    /// Requests 2026-05 and 2026-08, after every event of many small runs. Each rank's word has its own bit off, so that a result shows its
+    /// set.
     #[test]
     fn the_living_agree() {
         for seed in 0..40_000 {
             let random = &mut Random::new(seed);
-            let manner = Manner { crash: 3 + random.below(40), notice: 2 + random.below(20), reorder: random.one_in(2) };
-            let mut g = Group::start(2 + random.below(7));
-            let mut words = vec![None; g.n as usize];
-            while let Some(mut e) = likely(random, &g, &manner) {
+            let manner = any_manner(random);
+            let mut run = Watched::start(2 + random.below(7));
+            while let Some(mut e) = likely(random, &run.g, &manner) {
                 if e.kind == 1 {
                     e.b = !(1 << e.a);
-                    words[e.a as usize] = Some(e.b);
                 }
-                assert_eq!(g.event(e).number, 0, "{seed}");
-                assert!(agree(&g, &words), "{seed}");
+                assert_eq!(run.event(e), 0, "{seed}");
+                assert!(run.agree(), "{seed}");
             }
         }
+    }
+
+    /// Among the schedules that the gate runs, those of tests/renew, is each answer to an event of kind 6, and verdicts of both codes: on deaths
+    /// that all acknowledged, on others, and on none.
+    #[test]
+    fn kind_6_occurs() {
+        let (mut answers, mut verdicts) = (BTreeSet::new(), BTreeSet::new());
+        for k in 0..204 {
+            let path = format!("{}/../../crates/agr_cases/data/{k:03}.agr", env!("CARGO_MANIFEST_DIR"));
+            let Ok((n, events)) = read(&std::fs::read(path).expect("a schedule of the gate")) else { continue };
+            let mut g = Group::start(n);
+            for e in events {
+                let answer = g.event(e);
+                if e.kind == 6 {
+                    answers.insert(answer.number);
+                }
+            }
+            let decided = g.ranks.iter().filter(|r| r.phase == Phase::Decided);
+            verdicts.extend(decided.map(|r| (r.result.known != 0, r.result.code())));
+        }
+        assert_eq!(answers, [0, 3, 4, 6, 7].into());
+        assert_eq!(verdicts, [(false, 0), (true, 0), (true, 1)].into());
     }
 }

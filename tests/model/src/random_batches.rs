@@ -29,7 +29,7 @@ fn wild(random: &mut Random, e: Event) -> [u32; 3] {
         0 => [wraps_to(random, kind), a, b],
         1 => [kind, wraps_to(random, a), b],
         2 => [kind, a, wraps_to(random, b)],
-        _ => [random.below(7), any(random), any(random)].map(|x| if random.one_in(4) { any(random) } else { x }),
+        _ => [random.below(8), any(random), any(random)].map(|x| if random.one_in(4) { any(random) } else { x }),
     }
 }
 
@@ -119,22 +119,24 @@ mod tests {
         let mut shown = vec![if right { format!("hand {}", case.hand) } else { format!("size {}", case.size) }];
         shown.push(format!("whole {}", whole.answers[0]));
         shown.extend(case.parts.iter().zip(&split.answers).map(|(call, answer)| call_shows(call, *answer)));
-        let events = whole.places.chunks(3).filter(|_| whole.answers[0] == 0);
-        shown.extend(events.map(|told| format!("event {}", told[0])));
+        let events = case.numbers.chunks(3).zip(whole.places.chunks(3)).filter(|_| whole.answers[0] == 0);
+        shown.extend(events.clone().map(|(_, told)| format!("event {}", told[0])));
+        shown.extend(events.filter(|(e, _)| e[0] == 6).map(|(_, told)| format!("kind 6, {}", told[0])));
         shown
     }
 
     /// Among the cases that the gate runs, those of tests/renew, is each answer of a call and of an event, and each change by hand.
     #[test]
     fn every_answer_occurs() {
-        let cases = cases(121, 100);
+        let cases = cases(109, 100);
         assert_eq!(text(&cases), gate("stdin"));
         assert_eq!(answers(&cases), gate("stdout"));
         let shown: BTreeSet<String> = cases.iter().flat_map(shows).collect();
         let numbered = |word: &str, to: u32| (1..=to).map(|k| format!("{word} {k}")).collect::<Vec<String>>();
         let others = [
-            "event 0", "hand 0", "part 0", "part 0, of nothing", "part 0, with places to spare", "part 40", "part 40, with too few places",
-            "part 41", "part 41, by one place", "size 0", "size 65", "size 66", "size 70", "whole 0", "whole 40", "whole 41",
+            "event 0", "hand 0", "kind 6, 0", "kind 6, 1", "kind 6, 2", "kind 6, 3", "kind 6, 4", "kind 6, 6", "kind 6, 7", "part 0",
+            "part 0, of nothing", "part 0, with places to spare", "part 40", "part 40, with too few places", "part 41",
+            "part 41, by one place", "size 0", "size 65", "size 66", "size 70", "whole 0", "whole 40", "whole 41",
         ];
         let wanted = [numbered("event", 11), numbered("hand", 7), others.map(str::to_string).to_vec()].concat();
         assert_eq!(shown, wanted.into_iter().collect());

@@ -1,7 +1,8 @@
 //! Random calls of mark and climb from a seed: views of every kind, damaged tables, numbers in and out of bounds.
 
-use crate::cases::{set, Case};
+use crate::cases::Case;
 use crate::random::Random;
+use crate::tree::set;
 use crate::views::{climb, fresh, Table, NONE};
 
 /// A word with the members below n, 64 of them at most.

@@ -1,6 +1,8 @@
-//! Document 01, "What a rank holds" and "What a rank does", with request 2026-04: who reports to an undecided rank is owed.
+//! Document 01, "What a rank holds" and "What a rank does", with request 2026-04, who reports to an undecided rank is owed, and request
+//! 2026-08, a triple stands where a word stood.
 
-use crate::tree::{children, mark_one, parent, Moved, Set};
+use crate::tree::{children, mark_one, parent, word, Moved, Set};
+use crate::triple::Triple;
 
 #[derive(Clone, Copy, PartialEq, Debug)]
 pub enum Phase {
@@ -12,8 +14,8 @@ pub enum Phase {
 
 #[derive(Clone, Copy, PartialEq, Debug)]
 pub enum Body {
-    Up(u32),
-    Down(u32),
+    Up(Triple),
+    Down(Triple),
     Ask,
 }
 
@@ -23,10 +25,11 @@ pub struct Rank {
     me: u32,
     pub phase: Phase,
     pub marks: Set,
+    pub acknowledged: Set,
     pub heard: Set,
     pub owed: Set,
-    pub word: u32,
-    pub result: u32,
+    pub triple: Triple,
+    pub result: Triple,
 }
 
 /// What one rule did: the messages it sent, in order, and who moved.
@@ -38,8 +41,8 @@ pub struct Done {
 
 impl Rank {
     pub fn fresh(n: u32, me: u32) -> Rank {
-        let (marks, heard, owed) = (Set::new(), Set::new(), Set::new());
-        Rank { n, me, phase: Phase::Outside, marks, heard, owed, word: u32::MAX, result: 0 }
+        let [marks, acknowledged, heard, owed] = [const { Set::new() }; 4];
+        Rank { n, me, phase: Phase::Outside, marks, acknowledged, heard, owed, triple: Triple::fresh(n), result: Triple::default() }
     }
 
     fn parent(&self) -> Option<u32> {
@@ -54,29 +57,36 @@ impl Rank {
         mark_one(self.n, &mut self.marks, q, &mut done.moved);
     }
 
-    fn decide(&mut self, x: u32, done: &mut Done) {
+    fn decide(&mut self, x: Triple, done: &mut Done) {
         self.result = x;
         self.phase = Phase::Decided;
         let told = self.children().union(&self.owed).copied().collect::<Set>();
         done.sends.extend(told.difference(&self.marks).map(|r| (*r, Body::Down(x))));
     }
 
+    /// A root decides its triple with its marks among the known dead; they join what it decides, not what it holds.
     fn settle(&mut self, done: &mut Done) {
         if self.phase != Phase::Gathering || !self.children().is_subset(&self.heard) {
             return;
         }
         match self.parent() {
-            None => self.decide(self.word, done),
+            None => self.decide(self.triple.knowing(word(&self.marks)), done),
             Some(p) => {
-                done.sends.push((p, Body::Up(self.word)));
+                done.sends.push((p, Body::Up(self.triple)));
                 self.phase = Phase::Waiting;
             }
         }
     }
 
+    /// Only a rank outside acknowledges; it sends nothing.
+    pub fn acknowledge(&mut self) {
+        self.acknowledged = self.marks.clone();
+    }
+
     pub fn enter(&mut self, w: u32) -> Done {
         let mut done = Done::default();
-        self.word &= w;
+        let proposed = Triple { word: w, known: word(&self.marks), acknowledged: word(&self.acknowledged) };
+        self.triple = self.triple.combined(proposed);
         self.phase = Phase::Gathering;
         self.settle(&mut done);
         done
@@ -91,7 +101,7 @@ impl Rank {
                 } else {
                     self.heard.insert(q);
                     self.owed.insert(q);
-                    self.word &= x;
+                    self.triple = self.triple.combined(x);
                 }
                 self.settle(&mut done);
             }
@@ -109,7 +119,7 @@ impl Rank {
                 } else {
                     self.owed.insert(q);
                     if self.phase == Phase::Waiting && self.parent() == Some(q) {
-                        done.sends.push((q, Body::Up(self.word)));
+                        done.sends.push((q, Body::Up(self.triple)));
                     }
                 }
                 self.settle(&mut done);
@@ -127,7 +137,7 @@ impl Rank {
         self.mark(q, &mut done);
         if self.phase == Phase::Waiting && old_parent == Some(q) {
             match self.parent() {
-                Some(p) => done.sends.push((p, Body::Up(self.word))),
+                Some(p) => done.sends.push((p, Body::Up(self.triple))),
                 None => {
                     self.heard.clear();
                     self.phase = Phase::Gathering;

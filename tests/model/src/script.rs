@@ -4,8 +4,8 @@
 //!     start N ->{sA}         start N -> NUMBER
 //!     KIND A B ->{eEW}       KIND A B -> NUMBER SENT COUNT RANKS
 
-use crate::cases::word;
 use crate::group::{Answer, Event, Group};
+use crate::tree::word;
 
 pub struct Script {
     pub text: String,

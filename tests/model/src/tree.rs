@@ -4,6 +4,16 @@ use std::collections::BTreeSet;
 
 pub type Set = BTreeSet<u32>;
 
+/// The set whose members are the bits of a word that are on.
+pub fn set(word: u64) -> Set {
+    (0..64).filter(|r| word >> r & 1 == 1).collect()
+}
+
+/// The word with a bit on for each member.
+pub fn word(set: &Set) -> u64 {
+    set.iter().map(|r| 1 << r).sum()
+}
+
 /// floor(p / 2^i) for i from 1, up to and including 0; rank 0 has none.
 fn ancestors(p: u32) -> Set {
     let mut found = Set::new();
@@ -50,6 +60,12 @@ pub fn mark_one(n: u32, marks: &mut Set, q: u32, moved: &mut Moved) {
 #[cfg(test)]
 mod tests {
     use super::*;
+
+    #[test]
+    fn words_and_sets() {
+        assert_eq!(set(0b1001 | 1 << 63), Set::from([0, 3, 63]));
+        assert_eq!(word(&set(u64::MAX)), u64::MAX);
+    }
 
     fn table(n: u32, marks: &[u32]) -> Vec<u32> {
         let marks = marks.iter().copied().collect();

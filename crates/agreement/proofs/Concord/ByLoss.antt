@@ -9,17 +9,17 @@ use Rattle.tree.proofs.Kin.{MayLead}
 use Rattle.tree.proofs.Laws.Parents.{leads-more}
 use Rattle.rank.specs.declared.Rank.{Rank}
 use Rattle.rank.specs.Words.{decided, up, down}
-use Rattle.state.specs.declared.State.{State}
-use Rattle.state.specs.States.{rankAt}
+use Rattle.rank.specs.declared.Triple.{Triple}
+use Rattle.group.proofs.Scenes.{Scene}
 use Rattle.group.proofs.Moves.{ByLoss}
 use Rattle.agreement.proofs.Living.{faded}
 use Rattle.agreement.proofs.Concord.Invariant.{MayTell, Arrives, Answers, Covers, Open, Verdict, Concord}
 
-module _ (anc : ℕ → ℕ) (n : ℕ) (s s′ : State) (t : ByLoss s s′) (inv : Concord anc n s) where
-  leads-on : (x b : ℕ) → MayLead anc (s .group .dead) x b → MayLead anc (s′ .group .dead) x b
-  leads-on x b h = leads-more anc (s .group .dead) (s′ .group .dead) x b (t .dead-stays) h
+module _ (anc : ℕ → ℕ) (n : ℕ) (s s′ : Scene) (t : ByLoss s s′) (inv : Concord anc n s) where
+  leads-on : (x b : ℕ) → MayLead anc (s .dead) x b → MayLead anc (s′ .dead) x b
+  leads-on x b h = leads-more anc (s .dead) (s′ .dead) x b (t .dead-stays) h
 
-  tells-on : (b x : ℕ) → MayTell anc (s .group .dead) b x → MayTell anc (s′ .group .dead) b x
+  tells-on : (b x : ℕ) → MayTell anc (s .dead) b x → MayTell anc (s′ .dead) b x
   tells-on b x (inl h) = inl (leads-on x b h)
   tells-on b x (inr h) = inr (λ a l. t .dead-stays a (h a l))
 
@@ -31,16 +31,16 @@ module _ (anc : ℕ → ℕ) (n : ℕ) (s s′ : State) (t : ByLoss s s′) (inv
       go (inr (inl h)) = inr (inl (subst (λ (r : Rank). has (r .heard) c ≡ true) (t .ranks-stay y) h))
       go (inr (inr h)) = inr (inr (t .was up c y h))
 
-  arrived : (b x w : ℕ) → Arrives anc n s′ b x w → Arrives anc n s b x w
-  arrived b x w (h, l, m) = (t .was-word down b x w h, faded t x l, subst (λ (r : Rank). has (r .marks) b ≡ false) (t .ranks-stay x) m)
+  arrived : (b x : ℕ) (w : Triple) → Arrives anc n s′ b x w → Arrives anc n s b x w
+  arrived b x w (h, l, m) = (t .was-carried down b x w h, faded t x l, subst (λ (r : Rank). has (r .marks) b ≡ false) (t .ranks-stay x) m)
 
-  was-decided : (x : ℕ) → rankAt s′ x .phase ≡ decided → rankAt s x .phase ≡ decided
+  was-decided : (x : ℕ) → s′ .rank x .phase ≡ decided → s .rank x .phase ≡ decided
   was-decided x e = subst (λ (r : Rank). r .phase ≡ decided) (t .ranks-stay x) e
 
   still-open : (x : ℕ) → Open anc n s x → Open anc n s′ x
   still-open x o = (λ e. o .0 (was-decided x e), λ b w a. o .1 b w (arrived b x w a))
 
-  was-verdict : (w : ℕ) → Verdict anc n s′ w → Verdict anc n s w
+  was-verdict : (w : Triple) → Verdict anc n s′ w → Verdict anc n s w
   was-verdict w (inl (i, l, e, r)) = inl (i, faded t i l, was-decided i e, subst (λ (y : Rank). y .result ≡ w) (t .ranks-stay i) r)
   was-verdict w (inr (b, x, a)) = inr (b, x, arrived b x w a)
 

@@ -15,31 +15,30 @@ use Rattle.tree.proofs.Laws.Children.{under-le, child-above-all}
 use Rattle.rank.specs.declared.Rank.{Rank}
 use Rattle.rank.specs.declared.Send.{Send}
 use Rattle.rank.specs.Words.{waiting, decided, up, down}
+use Rattle.rank.specs.declared.Triple.{Triple}
 use Rattle.rank.proofs.Turn.{Says, NoParent}
-use Rattle.rank.proofs.Speech.{SaysWord, Remains, Obeys, Settles}
-use Rattle.state.specs.declared.State.{State}
-use Rattle.state.specs.States.{rankAt}
-use Rattle.group.proofs.Moves.{Flies, Carries, ByRank, ByRankInWords}
-use Rattle.agreement.specs.Progress.{Lives}
-use Rattle.agreement.proofs.Living.{Truthful, lived, own-lives, unmarked, taken}
+use Rattle.rank.proofs.Speech.{SaysTriple, Remains, Obeys, Settles}
+use Rattle.group.proofs.Scenes.{Scene, Flies}
+use Rattle.group.proofs.Moves.{ByRank, ByRankInTriples}
+use Rattle.agreement.proofs.Living.{Lives, Truthful, lived, own-lives, unmarked, taken}
 use Rattle.agreement.proofs.Concord.Invariant.{MayTell, Arrives, Answers, Covers, Open, Verdict, Concord}
 use Rattle.agreement.proofs.Concord.Leading.{one-parent, teller-covered}
 use Rattle.agreement.proofs.Concord.Linking.{own-marks, own-parent, report-leads′, heard-leads′, owed-tells′, own-tells, decided-stays, teller-decides, down-tells′}
 
-module _ (anc : ℕ → ℕ) (tree : Ancestry anc) (chain : Chained anc) (n : ℕ) (small : n ≤ 64) (Entry : ℕ → ℕ → Type 0) (s s′ : State) (p kind q v : ℕ) (f g : Send)
-    (t : ByRank anc n s s′ p kind q f g) (u : ByRankInWords anc n Entry s s′ p kind q v f g) (true′ : Truthful n s′) (inv : Concord anc n s) where
+module _ (anc : ℕ → ℕ) (tree : Ancestry anc) (chain : Chained anc) (n : ℕ) (small : n ≤ 64) (Entry : ℕ → Triple → Type 0) (s s′ : Scene) (p kind q : ℕ) (v : Triple) (f g : Send)
+    (t : ByRank anc n s s′ p kind q f g) (u : ByRankInTriples anc n Entry s s′ p kind q v f g) (true′ : Truthful n s′) (inv : Concord anc n s) where
   -- ---- who is covered
 
   -- a cover grows only by this rank's report
   was-covered : (y x : ℕ) → Covers anc n s′ y x → Covers anc n s y x ⊎ (Says f g up y × Under anc p x)
   was-covered y x (c, d, a, k) = go a
     where
-      own : (y ≡ p) → (has (rankAt s p .heard) c ≡ true) ⊎ ((kind ≡ up) × (q ≡ c)) → Answers anc n s y c
-      own e (inl h) = inr (inl (subst (λ (z : ℕ). has (rankAt s z .heard) c ≡ true) (sym e) h))
+      own : (y ≡ p) → (has (s .rank p .heard) c ≡ true) ⊎ ((kind ≡ up) × (q ≡ c)) → Answers anc n s y c
+      own e (inl h) = inr (inl (subst (λ (z : ℕ). has (s .rank z .heard) c ≡ true) (sym e) h))
       own e (inr (k′, h)) = inr (inr (subst (λ (z : ℕ). Flies s up c z) (sym e) (subst (λ (z : ℕ). Flies s up z p) h (taken t up (omega arith) k′))))
 
-      heard : has (rankAt s′ y .heard) c ≡ true → (y ≡ p) ⊎ (y ≡ p → ⊥) → Answers anc n s y c
-      heard h (inl e) = own e (t .turn .heard-new c (subst (λ (z : ℕ). has (rankAt s′ z .heard) c ≡ true) e h))
+      heard : has (s′ .rank y .heard) c ≡ true → (y ≡ p) ⊎ (y ≡ p → ⊥) → Answers anc n s y c
+      heard h (inl e) = own e (t .turn .heard-new c (subst (λ (z : ℕ). has (s′ .rank z .heard) c ≡ true) e h))
       heard h (inr o) = inr (inl (subst (λ (r : Rank). has (r .heard) c ≡ true) (t .others y o) h))
 
       reports : Flies s up c y ⊎ ((c ≡ p) × Says f g up y) → Covers anc n s y x ⊎ (Says f g up y × Under anc p x)
@@ -52,7 +51,7 @@ module _ (anc : ℕ → ℕ) (tree : Ancestry anc) (chain : Chained anc) (n : �
       go (inr (inr h)) = reports (t .was up c y h)
 
   -- whoever answers to y is y, or may have y as its parent
-  answerer : (y c : ℕ) → y < n → Answers anc n s y c → (c ≡ y) ⊎ MayLead anc (s .group .dead) c y
+  answerer : (y c : ℕ) → y < n → Answers anc n s y c → (c ≡ y) ⊎ MayLead anc (s .dead) c y
   answerer y c l (inl e) = inl e
   answerer y c l (inr (inl h)) = inr (inv .heard-leads c y l h)
   answerer y c l (inr (inr h)) = inr (inv .report-leads c y h)
@@ -61,73 +60,73 @@ module _ (anc : ℕ → ℕ) (tree : Ancestry anc) (chain : Chained anc) (n : �
   cover-above : (y x : ℕ) → y < n → Covers anc n s y x → y < x
   cover-above y x l (c, d, a, k) = go (answerer y c l a)
     where
-      go : (c ≡ y) ⊎ MayLead anc (s .group .dead) c y → y < x
+      go : (c ≡ y) ⊎ MayLead anc (s .dead) c y → y < x
       go (inl e) = let h : c ≤ x = under-le anc tree c x k in omega arith
       go (inr m) = let h : c ≤ x = under-le anc tree c x k in let o : y < c = m .smaller in omega arith
 
   -- ---- a rank decides only where nobody living and undecided covers it
 
-  root-low : NoParent anc p (rankAt s′ p) → (k : ℕ) → k < p → has (s .group .dead) k ≡ true
-  root-low r k l = let o = t .own in own-marks tree small t u true′ inv k (no-parent-all anc (rankAt s′ p .marks) p (omega arith) r k l)
+  root-low : NoParent anc p (s′ .rank p) → (k : ℕ) → k < p → has (s .dead) k ≡ true
+  root-low r k l = let o = t .own in own-marks tree small t u true′ inv k (no-parent-all anc (s′ .rank p .marks) p (omega arith) r k l)
 
   -- the DOWN that it took arrived
   arrival : kind ≡ down → Arrives anc n s q p v
-  arrival k = (subst (λ (j : ℕ). Carries s j q p v) k (u .took (λ z. omega arith)), (t .own, t .lives), t .known (λ z. omega arith))
+  arrival k = (subst (λ (j : ℕ). s .Carries j q p v) k (u .took (λ z. omega arith)), (t .own, t .lives), t .known (λ z. omega arith))
 
-  decides-uncovered : (y : ℕ) → Lives n s y → (rankAt s y .phase ≡ decided → ⊥) → Covers anc n s y p → rankAt s′ p .phase ≡ decided → ⊥
+  decides-uncovered : (y : ℕ) → Lives n s y → (s .rank y .phase ≡ decided → ⊥) → Covers anc n s y p → s′ .rank p .phase ≡ decided → ⊥
   decides-uncovered y l d c e = go (u .speech .result-from e)
     where
       o : Open anc n s p
       o = inv .covered-open y p l d c (t .own)
 
-      go : Remains (rankAt s p) (rankAt s′ p) ⊎ (Obeys kind v (rankAt s′ p) ⊎ Settles anc n p (rankAt s p) (rankAt s′ p)) → ⊥
+      go : Remains (s .rank p) (s′ .rank p) ⊎ (Obeys kind v (s .rank p) (s′ .rank p) ⊎ Settles anc n p (s .rank p) (s′ .rank p)) → ⊥
       go (inl h) = o .0 (h .was-decided)
       go (inr (inl h)) = o .1 q v (arrival (h .took-down))
-      go (inr (inr h)) = clash (has (s .group .dead) y) (root-low (h .root) y (cover-above y p (l .0) c)) (l .1)
+      go (inr (inr h)) = clash (has (s .dead) y) (root-low (h .root) y (cover-above y p (l .0) c)) (l .1)
 
   -- a DOWN that arrives arrived before, or this rank sends it
-  arrived : (b x w : ℕ) → Arrives anc n s′ b x w → Arrives anc n s b x w ⊎ ((b ≡ p) × SaysWord f g down w x)
+  arrived : (b x : ℕ) (w : Triple) → Arrives anc n s′ b x w → Arrives anc n s b x w ⊎ ((b ≡ p) × SaysTriple f g down w x)
   arrived b x w (h, l, m) = go (u .was down b x w h)
     where
-      free : (x ≡ p) ⊎ (x ≡ p → ⊥) → has (rankAt s x .marks) b ≡ false
-      free (inl e) = fails (has (rankAt s x .marks) b) (λ k. clash (has (rankAt s′ p .marks) b) (t .turn .marks-grow b (subst (λ (z : ℕ). has (rankAt s z .marks) b ≡ true) e k)) (subst (λ (z : ℕ). has (rankAt s′ z .marks) b ≡ false) e m))
+      free : (x ≡ p) ⊎ (x ≡ p → ⊥) → has (s .rank x .marks) b ≡ false
+      free (inl e) = fails (has (s .rank x .marks) b) (λ k. clash (has (s′ .rank p .marks) b) (t .turn .marks-grow b (subst (λ (z : ℕ). has (s .rank z .marks) b ≡ true) e k)) (subst (λ (z : ℕ). has (s′ .rank z .marks) b ≡ false) e m))
       free (inr d) = subst (λ (r : Rank). has (r .marks) b ≡ false) (t .others x d) m
 
-      go : Carries s down b x w ⊎ ((b ≡ p) × SaysWord f g down w x) → Arrives anc n s b x w ⊎ ((b ≡ p) × SaysWord f g down w x)
+      go : s .Carries down b x w ⊎ ((b ≡ p) × SaysTriple f g down w x) → Arrives anc n s b x w ⊎ ((b ≡ p) × SaysTriple f g down w x)
       go (inl e) = inl (e, lived t x l, free (eq-or-ne x p))
       go (inr e) = inr e
 
   -- and it tells nobody whom another living undecided rank covers
-  tells-uncovered : (y x w : ℕ) → Lives n s y → (rankAt s′ y .phase ≡ decided → ⊥) → Covers anc n s y x → SaysWord f g down w x → ⊥
+  tells-uncovered : (y x : ℕ) (w : Triple) → Lives n s y → (s′ .rank y .phase ≡ decided → ⊥) → Covers anc n s y x → SaysTriple f g down w x → ⊥
   tells-uncovered y x w l d (c, o, a, k) h =
-      let e : rankAt s′ p .phase ≡ decided = teller-decides tree small t u true′ inv w x h in
-      let other : y ≡ p → ⊥ = λ z. d (subst (λ (j : ℕ). rankAt s′ j .phase ≡ decided) (sym z) e) in
+      let e : s′ .rank p .phase ≡ decided = teller-decides tree small t u true′ inv w x h in
+      let other : y ≡ p → ⊥ = λ z. d (subst (λ (j : ℕ). s′ .rank j .phase ≡ decided) (sym z) e) in
       decides-uncovered y l (λ z. d (decided-stays tree small t u true′ inv y z))
-      (c, λ z. other (sym z), a, teller-covered anc tree chain (s .group .dead) y c x p (l .1) (t .lives) o k other (answerer y c (l .0) a) (own-tells tree small t u true′ inv w x h)) e
+      (c, λ z. other (sym z), a, teller-covered anc tree chain (s .dead) y c x p (l .1) (t .lives) o k other (answerer y c (l .0) a) (own-tells tree small t u true′ inv w x h)) e
 
   -- ---- whoever is covered is open
 
-  still-open : (x : ℕ) → Open anc n s x → (x ≡ p → rankAt s′ p .phase ≡ decided → ⊥) → ((w : ℕ) → SaysWord f g down w x → ⊥) → Open anc n s′ x
-  still-open x o d h = (λ e. go e (eq-or-ne x p), λ b w a. ⊎-elim (λ (z : Arrives anc n s b x w). o .1 b w z) (λ (z : (b ≡ p) × SaysWord f g down w x). h w (z .1)) (arrived b x w a))
+  still-open : (x : ℕ) → Open anc n s x → (x ≡ p → s′ .rank p .phase ≡ decided → ⊥) → ((w : Triple) → SaysTriple f g down w x → ⊥) → Open anc n s′ x
+  still-open x o d h = (λ e. go e (eq-or-ne x p), λ b w a. ⊎-elim (λ (z : Arrives anc n s b x w). o .1 b w z) (λ (z : (b ≡ p) × SaysTriple f g down w x). h w (z .1)) (arrived b x w a))
     where
-      go : rankAt s′ x .phase ≡ decided → (x ≡ p) ⊎ (x ≡ p → ⊥) → ⊥
-      go e (inl z) = d z (subst (λ (j : ℕ). rankAt s′ j .phase ≡ decided) z e)
+      go : s′ .rank x .phase ≡ decided → (x ≡ p) ⊎ (x ≡ p → ⊥) → ⊥
+      go e (inl z) = d z (subst (λ (j : ℕ). s′ .rank j .phase ≡ decided) z e)
       go e (inr z) = o .0 (subst (λ (r : Rank). r .phase ≡ decided) (t .others x z) e)
 
   -- this rank reports to y: y is its one living parent, and has sent it no DOWN
-  module _ (y : ℕ) (l : Lives n s y) (d : rankAt s y .phase ≡ decided → ⊥) (h : Says f g up y) where
-    waits : rankAt s′ p .phase ≡ decided → ⊥
-    waits e = let w : rankAt s′ p .phase ≡ waiting = t .turn .up-waits y h in omega arith
+  module _ (y : ℕ) (l : Lives n s y) (d : s .rank y .phase ≡ decided → ⊥) (h : Says f g up y) where
+    waits : s′ .rank p .phase ≡ decided → ⊥
+    waits e = let w : s′ .rank p .phase ≡ waiting = t .turn .up-waits y h in omega arith
 
-    no-down : (b w : ℕ) → Arrives anc n s′ b p w → ⊥
+    no-down : (b : ℕ) (w : Triple) → Arrives anc n s′ b p w → ⊥
     no-down b w a = go (arrived b p w a)
       where
-        from : (rankAt s b .phase ≡ decided) → MayTell anc (s .group .dead) b p → ⊥
-        from e (inl m) = d (subst (λ (z : ℕ). rankAt s z .phase ≡ decided) (sym (one-parent anc (rankAt s′ p .marks) (s .group .dead) p y b (own-parent tree small t u true′ inv y h) (l .1) (a .2) m)) e)
-        from e (inr m) = clash (has (s .group .dead) y) (m y (own-parent tree small t u true′ inv y h .smaller)) (l .1)
+        from : (s .rank b .phase ≡ decided) → MayTell anc (s .dead) b p → ⊥
+        from e (inl m) = d (subst (λ (z : ℕ). s .rank z .phase ≡ decided) (sym (one-parent anc (s′ .rank p .marks) (s .dead) p y b (own-parent tree small t u true′ inv y h) (l .1) (a .2) m)) e)
+        from e (inr m) = clash (has (s .dead) y) (m y (own-parent tree small t u true′ inv y h .smaller)) (l .1)
 
-        go : Arrives anc n s b p w ⊎ ((b ≡ p) × SaysWord f g down w p) → ⊥
-        go (inl z) = let k = inv .down-tells b p (z .0 .flies) in from (k .1) (k .2)
+        go : Arrives anc n s b p w ⊎ ((b ≡ p) × SaysTriple f g down w p) → ⊥
+        go (inl z) = let k = inv .down-tells b p (w, z .0) in from (k .1) (k .2)
         go (inr z) = waits (teller-decides tree small t u true′ inv w p (z .1))
 
     reported-open : (x : ℕ) → Under anc p x → x < n → Open anc n s′ x
@@ -137,13 +136,13 @@ module _ (anc : ℕ → ℕ) (tree : Ancestry anc) (chain : Chained anc) (n : �
         go (inl e) = subst (Open anc n s′) (sym e) (waits, no-down)
         go (inr o) = still-open x (inv .covered-open p x (t .own, t .lives) (λ e. waits (t .turn .final e)) (p, o, inl refl, k) b) (λ z. absurd (o z)) (λ w z. waits (teller-decides tree small t u true′ inv w x z))
 
-  covered-open′ : (y x : ℕ) → Lives n s′ y → (rankAt s′ y .phase ≡ decided → ⊥) → Covers anc n s′ y x → x < n → Open anc n s′ x
+  covered-open′ : (y x : ℕ) → Lives n s′ y → (s′ .rank y .phase ≡ decided → ⊥) → Covers anc n s′ y x → x < n → Open anc n s′ x
   covered-open′ y x l d c b = go (was-covered y x c)
     where
       ly : Lives n s y
       ly = lived t y l
 
-      dy : rankAt s y .phase ≡ decided → ⊥
+      dy : s .rank y .phase ≡ decided → ⊥
       dy e = d (decided-stays tree small t u true′ inv y e)
 
       go : Covers anc n s y x ⊎ (Says f g up y × Under anc p x) → Open anc n s′ x
@@ -153,63 +152,63 @@ module _ (anc : ℕ → ℕ) (tree : Ancestry anc) (chain : Chained anc) (n : �
   -- ---- one result
 
   -- where a root decides its word, everyone else that it has not marked was open
-  all-open : Settles anc n p (rankAt s p) (rankAt s′ p) → (x : ℕ) → x < n → has (rankAt s′ p .marks) x ≡ false → (x ≡ p → ⊥) → Open anc n s x
+  all-open : Settles anc n p (s .rank p) (s′ .rank p) → (x : ℕ) → x < n → has (s′ .rank p .marks) x ≡ false → (x ≡ p → ⊥) → Open anc n s x
   all-open z x l m o = inv .covered-open p x (t .own, t .lives) (z .was-undecided) (go (was-covered p x (k .child, o, inr (inl (z .complete (k .child) (k .isChild))), k .under))) l
     where
-      k : UnderAChild anc n (rankAt s′ p .marks) p x
-      k = let b = t .own in child-above-all anc tree n (rankAt s′ p .marks) p x (omega arith) (z .root) (unmarked t true′ p (own-lives t)) l m o
+      k : UnderAChild anc n (s′ .rank p .marks) p x
+      k = let b = t .own in child-above-all anc tree n (s′ .rank p .marks) p x (omega arith) (z .root) (unmarked t true′ p (own-lives t)) l m o
 
       go : Covers anc n s p x ⊎ (Says f g up p × Under anc p x) → Covers anc n s p x
       go (inl c) = c
       go (inr c) = (p, o, inl refl, c .1)
 
-  settled-alone : Settles anc n p (rankAt s p) (rankAt s′ p) → (w : ℕ) → Verdict anc n s′ w → w ≡ rankAt s′ p .result
+  settled-alone : Settles anc n p (s .rank p) (s′ .rank p) → (w : Triple) → Verdict anc n s′ w → w ≡ s′ .rank p .result
   settled-alone z w (inl (i, l, e, r)) = go (eq-or-ne i p)
     where
-      go : (i ≡ p) ⊎ (i ≡ p → ⊥) → w ≡ rankAt s′ p .result
-      go (inl k) = subst (λ (j : ℕ). w ≡ rankAt s′ j .result) k (sym r)
+      go : (i ≡ p) ⊎ (i ≡ p → ⊥) → w ≡ s′ .rank p .result
+      go (inl k) = subst (λ (j : ℕ). w ≡ s′ .rank j .result) k (sym r)
       go (inr k) = absurd (all-open z i (l .0) (unmarked t true′ i l) k .0 (subst (λ (y : Rank). y .phase ≡ decided) (t .others i k) e))
   settled-alone z w (inr (b, x, a)) = go (arrived b x w a) (eq-or-ne x p)
     where
-      to-root : (x ≡ p) → Carries s down b x w → ⊥
+      to-root : (x ≡ p) → s .Carries down b x w → ⊥
       to-root e c =
-          let k = inv .down-tells b x (c .flies) in
-          all-open z b (k .0) (subst (λ (j : ℕ). has (rankAt s′ j .marks) b ≡ false) e (a .2)) (λ y. z .was-undecided (subst (λ (j : ℕ). rankAt s j .phase ≡ decided) y (k .1))) .0 (k .1)
+          let k = inv .down-tells b x (w, c) in
+          all-open z b (k .0) (subst (λ (j : ℕ). has (s′ .rank j .marks) b ≡ false) e (a .2)) (λ y. z .was-undecided (subst (λ (j : ℕ). s .rank j .phase ≡ decided) y (k .1))) .0 (k .1)
 
-      go : Arrives anc n s b x w ⊎ ((b ≡ p) × SaysWord f g down w x) → (x ≡ p) ⊎ (x ≡ p → ⊥) → w ≡ rankAt s′ p .result
+      go : Arrives anc n s b x w ⊎ ((b ≡ p) × SaysTriple f g down w x) → (x ≡ p) ⊎ (x ≡ p → ⊥) → w ≡ s′ .rank p .result
       go (inl c) (inl e) = absurd (to-root e (c .0))
       go (inl c) (inr o) = absurd (all-open z x (a .1 .0) (unmarked t true′ x (a .1)) o .1 b w c)
       go (inr c) o = u .speech .down-to w x (c .1) .1
 
   -- any other result was a verdict before
-  source : rankAt s′ p .phase ≡ decided → Verdict anc n s (rankAt s′ p .result) ⊎ Settles anc n p (rankAt s p) (rankAt s′ p)
+  source : s′ .rank p .phase ≡ decided → Verdict anc n s (s′ .rank p .result) ⊎ Settles anc n p (s .rank p) (s′ .rank p)
   source e = go (u .speech .result-from e)
     where
-      go : Remains (rankAt s p) (rankAt s′ p) ⊎ (Obeys kind v (rankAt s′ p) ⊎ Settles anc n p (rankAt s p) (rankAt s′ p)) → Verdict anc n s (rankAt s′ p .result) ⊎ Settles anc n p (rankAt s p) (rankAt s′ p)
+      go : Remains (s .rank p) (s′ .rank p) ⊎ (Obeys kind v (s .rank p) (s′ .rank p) ⊎ Settles anc n p (s .rank p) (s′ .rank p)) → Verdict anc n s (s′ .rank p .result) ⊎ Settles anc n p (s .rank p) (s′ .rank p)
       go (inl h) = inl (inl (p, (t .own, t .lives), h .was-decided, sym (h .result-is)))
       go (inr (inl h)) = inl (subst (Verdict anc n s) (sym (h .result-is)) (inr (q, p, arrival (h .took-down))))
       go (inr (inr h)) = inr h
 
-  was-verdict : (rankAt s′ p .phase ≡ decided → Verdict anc n s (rankAt s′ p .result)) → (w : ℕ) → Verdict anc n s′ w → Verdict anc n s w
+  was-verdict : (s′ .rank p .phase ≡ decided → Verdict anc n s (s′ .rank p .result)) → (w : Triple) → Verdict anc n s′ w → Verdict anc n s w
   was-verdict own w (inl (i, l, e, r)) = go (eq-or-ne i p)
     where
       go : (i ≡ p) ⊎ (i ≡ p → ⊥) → Verdict anc n s w
-      go (inl k) = subst (Verdict anc n s) (subst (λ (j : ℕ). rankAt s′ j .result ≡ w) k r) (own (subst (λ (j : ℕ). rankAt s′ j .phase ≡ decided) k e))
+      go (inl k) = subst (Verdict anc n s) (subst (λ (j : ℕ). s′ .rank j .result ≡ w) k r) (own (subst (λ (j : ℕ). s′ .rank j .phase ≡ decided) k e))
       go (inr k) = inl (i, lived t i l, subst (λ (y : Rank). y .phase ≡ decided) (t .others i k) e, subst (λ (y : Rank). y .result ≡ w) (t .others i k) r)
   was-verdict own w (inr (b, x, a)) = go (arrived b x w a)
     where
-      go : Arrives anc n s b x w ⊎ ((b ≡ p) × SaysWord f g down w x) → Verdict anc n s w
+      go : Arrives anc n s b x w ⊎ ((b ≡ p) × SaysTriple f g down w x) → Verdict anc n s w
       go (inl c) = inr (b, x, c)
       go (inr c) = subst (Verdict anc n s) (sym (u .speech .down-to w x (c .1) .1)) (own (teller-decides tree small t u true′ inv w x (c .1)))
 
-  one-result′ : (w w′ : ℕ) → Verdict anc n s′ w → Verdict anc n s′ w′ → w ≡ w′
-  one-result′ w w′ h h′ = go (eq-or-ne (rankAt s′ p .phase) decided)
+  one-result′ : (w w′ : Triple) → Verdict anc n s′ w → Verdict anc n s′ w′ → w ≡ w′
+  one-result′ w w′ h h′ = go (eq-or-ne (s′ .rank p .phase) decided)
     where
-      old : (rankAt s′ p .phase ≡ decided → Verdict anc n s (rankAt s′ p .result)) → w ≡ w′
+      old : (s′ .rank p .phase ≡ decided → Verdict anc n s (s′ .rank p .result)) → w ≡ w′
       old own = inv .one-result w w′ (was-verdict own w h) (was-verdict own w′ h′)
 
-      go : (rankAt s′ p .phase ≡ decided) ⊎ (rankAt s′ p .phase ≡ decided → ⊥) → w ≡ w′
-      go (inl e) = ⊎-elim (λ (k : Verdict anc n s (rankAt s′ p .result)). old (λ z. k)) (λ (k : Settles anc n p (rankAt s p) (rankAt s′ p)). settled-alone k w h ∙ sym (settled-alone k w′ h′)) (source e)
+      go : (s′ .rank p .phase ≡ decided) ⊎ (s′ .rank p .phase ≡ decided → ⊥) → w ≡ w′
+      go (inl e) = ⊎-elim (λ (k : Verdict anc n s (s′ .rank p .result)). old (λ z. k)) (λ (k : Settles anc n p (s .rank p) (s′ .rank p)). settled-alone k w h ∙ sym (settled-alone k w′ h′)) (source e)
       go (inr d) = old (λ e. absurd (d e))
 
   pub turn-agrees : Concord anc n s′

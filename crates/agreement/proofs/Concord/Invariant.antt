@@ -8,10 +8,9 @@ use mathlib.Core.Logic.{_⊎_}
 use Rattle.sets.specs.Sets.{has}
 use Rattle.tree.proofs.Kin.{Under, MayLead}
 use Rattle.rank.specs.Words.{decided, up, down}
-use Rattle.state.specs.declared.State.{State}
-use Rattle.state.specs.States.{rankAt}
-use Rattle.group.proofs.Moves.{Flies, Carries}
-use Rattle.agreement.specs.Progress.{Lives}
+use Rattle.rank.specs.declared.Triple.{Triple}
+use Rattle.group.proofs.Scenes.{Scene, Flies}
+use Rattle.agreement.proofs.Living.{Lives}
 
 -- Where these ranks are dead, b may send x a DOWN: b may be x's parent, or every rank below x is dead.
 abbrev pub MayTell : (ℕ → ℕ) → ℕ → ℕ → ℕ → Type 0
@@ -19,29 +18,29 @@ MayTell anc dead b x = MayLead anc dead x b ⊎ ((a : ℕ) → a < x → has dea
 
 module _ (anc : ℕ → ℕ) (n : ℕ) where
   -- A DOWN with this word is on its way to a living rank that has not marked its sender: it will be taken.
-  abbrev pub Arrives : State → ℕ → ℕ → ℕ → Type 0
-  Arrives s b x w = Carries s down b x w × Lives n s x × (has (rankAt s x .marks) b ≡ false)
+  abbrev pub Arrives : Scene → ℕ → ℕ → Triple → Type 0
+  Arrives s b x w = s .Carries down b x w × Lives n s x × (has (s .rank x .marks) b ≡ false)
 
   -- c answers to y for all under c: c is y, y has heard c, or c's report to y is on its way.
-  abbrev pub Answers : State → ℕ → ℕ → Type 0
-  Answers s y c = (c ≡ y) ⊎ ((has (rankAt s y .heard) c ≡ true) ⊎ Flies s up c y)
+  abbrev pub Answers : Scene → ℕ → ℕ → Type 0
+  Answers s y c = (c ≡ y) ⊎ ((has (s .rank y .heard) c ≡ true) ⊎ Flies s up c y)
 
   -- y covers x.
-  abbrev pub Covers : State → ℕ → ℕ → Type 0
+  abbrev pub Covers : Scene → ℕ → ℕ → Type 0
   Covers s y x = (c : ℕ) × (x ≡ y → ⊥) × Answers s y c × Under anc c x
 
   -- x is undecided, and no DOWN arrives at it.
-  abbrev pub Open : State → ℕ → Type 0
-  Open s x = (rankAt s x .phase ≡ decided → ⊥) × ((b w : ℕ) → Arrives s b x w → ⊥)
+  abbrev pub Open : Scene → ℕ → Type 0
+  Open s x = (s .rank x .phase ≡ decided → ⊥) × ((b : ℕ) (w : Triple) → Arrives s b x w → ⊥)
 
   -- A living decided rank has this result, or a DOWN that carries it arrives.
-  abbrev pub Verdict : State → ℕ → Type 0
-  Verdict s w = ((i : ℕ) × Lives n s i × (rankAt s i .phase ≡ decided) × (rankAt s i .result ≡ w)) ⊎ ((b : ℕ) × (x : ℕ) × Arrives s b x w)
+  abbrev pub Verdict : Scene → Triple → Type 0
+  Verdict s w = ((i : ℕ) × Lives n s i × (s .rank i .phase ≡ decided) × (s .rank i .result ≡ w)) ⊎ ((b : ℕ) × (x : ℕ) × Arrives s b x w)
 
-  pub record Concord (s : State) : Type 0 where
-    pub report-leads : (x b : ℕ) → Flies s up x b → MayLead anc (s .group .dead) x b
-    pub heard-leads : (x b : ℕ) → b < n → has (rankAt s b .heard) x ≡ true → MayLead anc (s .group .dead) x b
-    pub owed-tells : (x b : ℕ) → b < n → has (rankAt s b .owed) x ≡ true → MayTell anc (s .group .dead) b x
-    pub down-tells : (b x : ℕ) → Flies s down b x → (b < n) × (rankAt s b .phase ≡ decided) × MayTell anc (s .group .dead) b x
-    pub covered-open : (y x : ℕ) → Lives n s y → (rankAt s y .phase ≡ decided → ⊥) → Covers s y x → x < n → Open s x
-    pub one-result : (w w′ : ℕ) → Verdict s w → Verdict s w′ → w ≡ w′
+  pub record Concord (s : Scene) : Type 0 where
+    pub report-leads : (x b : ℕ) → Flies s up x b → MayLead anc (s .dead) x b
+    pub heard-leads : (x b : ℕ) → b < n → has (s .rank b .heard) x ≡ true → MayLead anc (s .dead) x b
+    pub owed-tells : (x b : ℕ) → b < n → has (s .rank b .owed) x ≡ true → MayTell anc (s .dead) b x
+    pub down-tells : (b x : ℕ) → Flies s down b x → (b < n) × (s .rank b .phase ≡ decided) × MayTell anc (s .dead) b x
+    pub covered-open : (y x : ℕ) → Lives n s y → (s .rank y .phase ≡ decided → ⊥) → Covers s y x → x < n → Open s x
+    pub one-result : (w w′ : Triple) → Verdict s w → Verdict s w′ → w ≡ w′

@@ -9,14 +9,12 @@ use Rattle.tree.specs.Tree.{parent}
 use Rattle.rank.specs.declared.Rank.{Rank}
 use Rattle.rank.specs.Words.{gathering, waiting, decided, up, down, ask}
 use Rattle.rank.proofs.Turn.{NoParent, Leads}
-use Rattle.state.specs.declared.State.{State}
-use Rattle.state.specs.States.{rankAt}
-use Rattle.group.proofs.Moves.{Flies, ByLoss}
-use Rattle.agreement.specs.Progress.{Lives}
-use Rattle.agreement.proofs.Living.{faded}
+use Rattle.group.proofs.Scenes.{Scene, Flies}
+use Rattle.group.proofs.Moves.{ByLoss}
+use Rattle.agreement.proofs.Living.{Lives, faded}
 use Rattle.agreement.proofs.Progress.Invariant.{Early, New, NoneNew, Calm, Owes, owes-on, Held, InDebt, Polled, Progress}
 
-module _ (anc : ℕ → ℕ) (n : ℕ) (s s′ : State) (t : ByLoss s s′) (inv : Progress anc n s) where
+module _ (anc : ℕ → ℕ) (n : ℕ) (s s′ : Scene) (t : ByLoss s s′) (inv : Progress anc n s) where
   was-new : (x : ℕ) → New anc n s′ x → New anc n s x
   was-new x h = (faded t x (h .0), subst (Early anc n x) (t .ranks-stay x) (h .1))
 
@@ -32,7 +30,7 @@ module _ (anc : ℕ → ℕ) (n : ℕ) (s s′ : State) (t : ByLoss s s′) (inv
   still-held : (x a : ℕ) → Lives n s′ x → Lives n s′ a → Held anc n s x a → Held anc n s′ x a
   still-held x a lx la (inl h) = inl (kept up x a lx la h)
   still-held x a lx la (inr (inl h)) = inr (inl (kept down a x la lx h))
-  still-held x a lx la (inr (inr h)) = inr (inr (owes-on anc n (Flies s ask a x) (Flies s′ ask a x) a (rankAt s′ a) x (kept ask a x la lx) (subst (λ (r : Rank). Owes anc n (Flies s ask a x) a r x) (sym (t .ranks-stay a)) h)))
+  still-held x a lx la (inr (inr h)) = inr (inr (owes-on anc n (Flies s ask a x) (Flies s′ ask a x) a (s′ .rank a) x (kept ask a x la lx) (subst (λ (r : Rank). Owes anc n (Flies s ask a x) a r x) (sym (t .ranks-stay a)) h)))
 
   still-polled : (a c : ℕ) → Lives n s′ a → Lives n s′ c → Polled anc n s a c → Polled anc n s′ a c
   still-polled a c la lc (inl h) = inl (still-calm h)

@@ -12,10 +12,8 @@ use Rattle.tree.proofs.Kin.{Under}
 use Rattle.rank.specs.declared.Rank.{Rank}
 use Rattle.rank.specs.Words.{outside, gathering, waiting, decided, up, down, ask}
 use Rattle.rank.proofs.Turn.{NoParent, Leads}
-use Rattle.state.specs.declared.State.{State}
-use Rattle.state.specs.States.{rankAt}
-use Rattle.group.proofs.Moves.{Flies}
-use Rattle.agreement.specs.Progress.{Lives}
+use Rattle.group.proofs.Scenes.{Scene, Flies}
+use Rattle.agreement.proofs.Living.{Lives}
 
 module _ (anc : ℕ → ℕ) (n : ℕ) where
   -- A living rank that is outside, or gathers with a parent.
@@ -26,16 +24,16 @@ module _ (anc : ℕ → ℕ) (n : ℕ) where
   not-early x r l (inl e) = omega arith
   not-early x r l (inr h) = let e : r .phase ≡ gathering = h .0 in omega arith
 
-  abbrev pub New : State → ℕ → Type 0
-  New s x = Lives n s x × Early x (rankAt s x)
+  abbrev pub New : Scene → ℕ → Type 0
+  New s x = Lives n s x × Early x (s .rank x)
 
   -- Nobody new is c, or under c.
-  abbrev pub NoneNew : State → ℕ → Type 0
+  abbrev pub NoneNew : Scene → ℕ → Type 0
   NoneNew s c = (x : ℕ) → Under anc c x → New s x → ⊥
 
   -- Nobody, living or dead, has decided, and no DOWN is in flight.
-  abbrev pub Calm : State → Type 0
-  Calm s = ((b : ℕ) → b < n → rankAt s b .phase ≡ decided → ⊥) × ((b x : ℕ) → Flies s down b x → ⊥)
+  abbrev pub Calm : Scene → Type 0
+  Calm s = ((b : ℕ) → b < n → s .rank b .phase ≡ decided → ⊥) × ((b x : ℕ) → Flies s down b x → ⊥)
 
   -- Rank a, with record r, is undecided and owes x an answer; it has heard x, or gathers as a root and x is no child of it or is being asked.
   abbrev pub Owes : Type 0 → ℕ → Rank → ℕ → Type 0
@@ -54,21 +52,21 @@ module _ (anc : ℕ → ℕ) (n : ℕ) where
   )
 
   -- Rank x, which waits, is held by a.
-  abbrev pub Held : State → ℕ → ℕ → Type 0
-  Held s x a = Flies s up x a ⊎ (Flies s down a x ⊎ Owes (Flies s ask a x) a (rankAt s a) x)
+  abbrev pub Held : Scene → ℕ → ℕ → Type 0
+  Held s x a = Flies s up x a ⊎ (Flies s down a x ⊎ Owes (Flies s ask a x) a (s .rank a) x)
 
   -- Rank c is in debt to a.
   abbrev pub InDebt : Rank → ℕ → Type 0
   InDebt r a = (r .phase ≡ decided → ⊥) × (has (r .owed) a ≡ true)
 
   -- Rank c, a child, is polled by a.
-  abbrev pub Polled : State → ℕ → ℕ → Type 0
-  Polled s a c = Calm s ⊎ (Flies s ask a c ⊎ (InDebt (rankAt s c) a ⊎ Flies s down c a))
+  abbrev pub Polled : Scene → ℕ → ℕ → Type 0
+  Polled s a c = Calm s ⊎ (Flies s ask a c ⊎ (InDebt (s .rank c) a ⊎ Flies s down c a))
 
-  pub record Progress (s : State) : Type 0 where
-    pub heard-old : (p q : ℕ) → p < n → has (rankAt s p .heard) q ≡ true → NoneNew s q
+  pub record Progress (s : Scene) : Type 0 where
+    pub heard-old : (p q : ℕ) → p < n → has (s .rank p .heard) q ≡ true → NoneNew s q
     pub report-old : (q b : ℕ) → Flies s up q b → NoneNew s q
-    pub waiting-old : (p : ℕ) → p < n → rankAt s p .phase ≡ waiting → NoneNew s p
+    pub waiting-old : (p : ℕ) → p < n → s .rank p .phase ≡ waiting → NoneNew s p
     pub new-calm : (x : ℕ) → New s x → Calm s
-    pub held : (x a : ℕ) → Lives n s x → rankAt s x .phase ≡ waiting → parent anc (rankAt s x .marks) x ≡ a → Lives n s a → Held s x a
-    pub polled : (a c : ℕ) → Lives n s a → rankAt s a .phase ≡ gathering → NoParent anc a (rankAt s a) → Lives n s c → Leads anc n a (rankAt s a) c → Polled s a c
+    pub held : (x a : ℕ) → Lives n s x → s .rank x .phase ≡ waiting → parent anc (s .rank x .marks) x ≡ a → Lives n s a → Held s x a
+    pub polled : (a c : ℕ) → Lives n s a → s .rank a .phase ≡ gathering → NoParent anc a (s .rank a) → Lives n s c → Leads anc n a (s .rank a) c → Polled s a c

@@ -15,26 +15,24 @@ use Rattle.rank.specs.declared.Rank.{Rank}
 use Rattle.rank.specs.declared.Send.{Send}
 use Rattle.rank.specs.Words.{outside, gathering, waiting, decided, up, down, ask}
 use Rattle.rank.proofs.Turn.{NoParent, Leads, Polls, Says}
-use Rattle.state.specs.declared.State.{State}
-use Rattle.state.specs.States.{rankAt}
-use Rattle.group.proofs.Moves.{Flies, ByRank}
-use Rattle.agreement.specs.Progress.{Lives}
-use Rattle.agreement.proofs.Living.{Truthful, lived, own-lives, unmarked}
+use Rattle.group.proofs.Scenes.{Scene, Flies}
+use Rattle.group.proofs.Moves.{ByRank}
+use Rattle.agreement.proofs.Living.{Lives, Truthful, lived, own-lives, unmarked}
 use Rattle.agreement.proofs.Progress.Invariant.{Calm, Owes, owes-on, Held, InDebt, Polled, Progress}
 use Rattle.agreement.proofs.Progress.ByRank.{root-stays, calm-stays, only-root}
 
-module _ (anc : ℕ → ℕ) (tree : Ancestry anc) (chain : Chained anc) (n : ℕ) (small : n ≤ 64) (s s′ : State) (p kind q : ℕ) (f g : Send) (t : ByRank anc n s s′ p kind q f g)
+module _ (anc : ℕ → ℕ) (tree : Ancestry anc) (chain : Chained anc) (n : ℕ) (small : n ≤ 64) (s s′ : Scene) (p kind q : ℕ) (f g : Send) (t : ByRank anc n s s′ p kind q f g)
     (true′ : Truthful n s′) (inv : Progress anc n s) where
   abbrev Undecided : Type 0
-  Undecided = rankAt s′ p .phase ≡ decided → ⊥
+  Undecided = s′ .rank p .phase ≡ decided → ⊥
 
   alive : (x : ℕ) → Lives n s′ x → Lives n s x
   alive = lived t
 
-  free : (x : ℕ) → Lives n s′ x → has (rankAt s′ p .marks) x ≡ false
+  free : (x : ℕ) → Lives n s′ x → has (s′ .rank p .marks) x ≡ false
   free = unmarked t true′
 
-  rooted : NoParent anc p (rankAt s p) → NoParent anc p (rankAt s′ p)
+  rooted : NoParent anc p (s .rank p) → NoParent anc p (s′ .rank p)
   rooted = root-stays anc tree chain n small s s′ p kind q f g t true′ inv
 
   lasts : Calm anc n s → Undecided → Calm anc n s′
@@ -49,13 +47,13 @@ module _ (anc : ℕ → ℕ) (tree : Ancestry anc) (chain : Chained anc) (n : �
   still k b h = ⊎-elim (λ (e : Flies s′ k b p). inl e) (λ (e : (k ≡ kind) × (b ≡ q) × (p ≡ p)). inr (sym (e .0), sym (e .1))) (t .stays k b p h)
 
   -- a debt stays, or is paid by a decision
-  repaid : (x : ℕ) → Lives n s′ x → (rankAt s p .phase ≡ decided → ⊥) → has (rankAt s′ p .owed) x ≡ true → Flies s′ down p x ⊎ InDebt anc n (rankAt s′ p) x
+  repaid : (x : ℕ) → Lives n s′ x → (s .rank p .phase ≡ decided → ⊥) → has (s′ .rank p .owed) x ≡ true → Flies s′ down p x ⊎ InDebt anc n (s′ .rank p) x
   repaid x l u o =
-      ⊎-elim (λ (e : rankAt s′ p .phase ≡ decided). inl (t .joins down x (t .turn .tells-owed u e x o (free x l)))) (λ (e : Undecided). inr (e, o)) (eq-or-ne (rankAt s′ p .phase) decided)
+      ⊎-elim (λ (e : s′ .rank p .phase ≡ decided). inl (t .joins down x (t .turn .tells-owed u e x o (free x l)))) (λ (e : Undecided). inr (e, o)) (eq-or-ne (s′ .rank p .phase) decided)
 
   -- ---- this rank waits, and a holds it
 
-  waits-on : (a : ℕ) → (a ≡ p → ⊥) → rankAt s′ p .phase ≡ waiting → parent anc (rankAt s′ p .marks) p ≡ a → Held anc n s p a → Held anc n s′ p a
+  waits-on : (a : ℕ) → (a ≡ p → ⊥) → s′ .rank p .phase ≡ waiting → parent anc (s′ .rank p .marks) p ≡ a → Held anc n s p a → Held anc n s′ p a
   waits-on a d w e (inl h) = inl (kept up p a d h)
   waits-on a d w e (inr (inl h)) = go (still down a h)
     where
@@ -64,61 +62,61 @@ module _ (anc : ℕ → ℕ) (tree : Ancestry anc) (chain : Chained anc) (n : �
       go (inr y) = absurd (t .turn .takes-down (y .0) .1 w)
   waits-on a d w e (inr (inr h)) = go (subst (λ (r : Rank). Owes anc n (Flies s ask a p) a r p) (sym (t .others a d)) h)
     where
-      asked : (rankAt s′ a .phase ≡ decided → ⊥) → has (rankAt s′ a .owed) p ≡ true → rankAt s′ a .phase ≡ gathering → NoParent anc a (rankAt s′ a)
+      asked : (s′ .rank a .phase ≡ decided → ⊥) → has (s′ .rank a .owed) p ≡ true → s′ .rank a .phase ≡ gathering → NoParent anc a (s′ .rank a)
           → Flies s′ ask a p ⊎ ((kind ≡ ask) × (q ≡ a)) → Held anc n s′ p a
       asked u o y z (inl v) = inr (inr (u, o, inr (y, z, inr v)))
       asked u o y z (inr v) = inl (subst (Flies s′ up p) (v .1) (t .joins up q (t .turn .asked-reports (v .0) w (e ∙ sym (v .1)))))
 
-      root : (rankAt s′ a .phase ≡ decided → ⊥) → has (rankAt s′ a .owed) p ≡ true → rankAt s′ a .phase ≡ gathering → NoParent anc a (rankAt s′ a)
-          → (has (children anc n (rankAt s′ a .marks) a) p ≡ false) ⊎ Flies s ask a p → Held anc n s′ p a
+      root : (s′ .rank a .phase ≡ decided → ⊥) → has (s′ .rank a .owed) p ≡ true → s′ .rank a .phase ≡ gathering → NoParent anc a (s′ .rank a)
+          → (has (children anc n (s′ .rank a .marks) a) p ≡ false) ⊎ Flies s ask a p → Held anc n s′ p a
       root u o y z (inl v) = inr (inr (u, o, inr (y, z, inl v)))
       root u o y z (inr v) = asked u o y z (still ask a v)
 
-      go : Owes anc n (Flies s ask a p) a (rankAt s′ a) p → Held anc n s′ p a
-      go o = ⊎-elim (λ (y : has (rankAt s′ a .heard) p ≡ true). inr (inr (o .0, o .1, inl y)))
-          (λ (y : (rankAt s′ a .phase ≡ gathering) × NoParent anc a (rankAt s′ a) × ((has (children anc n (rankAt s′ a .marks) a) p ≡ false) ⊎ Flies s ask a p)). root (o .0) (o .1) (y .0) (y .1) (y .2)) (o .2)
+      go : Owes anc n (Flies s ask a p) a (s′ .rank a) p → Held anc n s′ p a
+      go o = ⊎-elim (λ (y : has (s′ .rank a .heard) p ≡ true). inr (inr (o .0, o .1, inl y)))
+          (λ (y : (s′ .rank a .phase ≡ gathering) × NoParent anc a (s′ .rank a) × ((has (children anc n (s′ .rank a .marks) a) p ≡ false) ⊎ Flies s ask a p)). root (o .0) (o .1) (y .0) (y .1) (y .2)) (o .2)
 
-  own-held : (a : ℕ) → Lives n s′ p → rankAt s′ p .phase ≡ waiting → parent anc (rankAt s′ p .marks) p ≡ a → Lives n s′ a → Held anc n s′ p a
+  own-held : (a : ℕ) → Lives n s′ p → s′ .rank p .phase ≡ waiting → parent anc (s′ .rank p .marks) p ≡ a → Lives n s′ a → Held anc n s′ p a
   own-held a lp w e la = go (t .turn .reports-to w)
     where
       a<p : a < p
-      a<p = let h = la .0 in subst (λ (y : ℕ). y < p) e (parent-lt anc (rankAt s′ p .marks) p (λ z. omega arith))
+      a<p = let h = la .0 in subst (λ (y : ℕ). y < p) e (parent-lt anc (s′ .rank p .marks) p (λ z. omega arith))
 
-      go : ((rankAt s p .phase ≡ waiting) × (parent anc (rankAt s p .marks) p ≡ parent anc (rankAt s′ p .marks) p)) ⊎ Says f g up (parent anc (rankAt s′ p .marks) p) → Held anc n s′ p a
+      go : ((s .rank p .phase ≡ waiting) × (parent anc (s .rank p .marks) p ≡ parent anc (s′ .rank p .marks) p)) ⊎ Says f g up (parent anc (s′ .rank p .marks) p) → Held anc n s′ p a
       go (inl h) = waits-on a (λ z. let y = a<p in omega arith) w e (inv .held p a (alive p lp) (h .0) (h .1 ∙ e) (alive a la))
-      go (inr h) = inl (subst (Flies s′ up p) e (t .joins up (parent anc (rankAt s′ p .marks) p) h))
+      go (inr h) = inl (subst (Flies s′ up p) e (t .joins up (parent anc (s′ .rank p .marks) p) h))
 
   -- ---- this rank holds x, which waits
 
   -- as a gathering root it has x for no child, or asks it
-  asks : (x : ℕ) → Undecided → has (rankAt s′ p .owed) x ≡ true → rankAt s′ p .phase ≡ gathering → NoParent anc p (rankAt s′ p) → (Leads anc n p (rankAt s′ p) x → Flies s′ ask p x) → Held anc n s′ x p
+  asks : (x : ℕ) → Undecided → has (s′ .rank p .owed) x ≡ true → s′ .rank p .phase ≡ gathering → NoParent anc p (s′ .rank p) → (Leads anc n p (s′ .rank p) x → Flies s′ ask p x) → Held anc n s′ x p
   asks x u o y z h =
-      ⊎-elim (λ (e : Leads anc n p (rankAt s′ p) x). inr (inr (u, o, inr (y, z, inr (h e))))) (λ (e : has (children anc n (rankAt s′ p .marks) p) x ≡ false). inr (inr (u, o, inr (y, z, inl e)))) (passes-or-fails (has (children anc n (rankAt s′ p .marks) p) x))
+      ⊎-elim (λ (e : Leads anc n p (s′ .rank p) x). inr (inr (u, o, inr (y, z, inr (h e))))) (λ (e : has (children anc n (s′ .rank p .marks) p) x ≡ false). inr (inr (u, o, inr (y, z, inl e)))) (passes-or-fails (has (children anc n (s′ .rank p .marks) p) x))
 
-  holds-on : (x : ℕ) → Lives n s′ x → (x ≡ p → ⊥) → Owes anc n (Flies s ask p x) p (rankAt s p) x → Held anc n s′ x p
+  holds-on : (x : ℕ) → Lives n s′ x → (x ≡ p → ⊥) → Owes anc n (Flies s ask p x) p (s .rank p) x → Held anc n s′ x p
   holds-on x l d o = go (repaid x l (o .0) (t .turn .owed-stays x (o .1)))
     where
-      goes : Undecided → has (rankAt s′ p .owed) x ≡ true → NoParent anc p (rankAt s p) → (has (children anc n (rankAt s p .marks) p) x ≡ false) ⊎ Flies s ask p x
-          → (rankAt s′ p .phase ≡ decided) ⊎ ((rankAt s′ p .phase ≡ gathering) × ((c : ℕ) → Leads anc n p (rankAt s′ p) c → Leads anc n p (rankAt s p) c ⊎ Says f g ask c)) → Held anc n s′ x p
+      goes : Undecided → has (s′ .rank p .owed) x ≡ true → NoParent anc p (s .rank p) → (has (children anc n (s .rank p .marks) p) x ≡ false) ⊎ Flies s ask p x
+          → (s′ .rank p .phase ≡ decided) ⊎ ((s′ .rank p .phase ≡ gathering) × ((c : ℕ) → Leads anc n p (s′ .rank p) c → Leads anc n p (s .rank p) c ⊎ Says f g ask c)) → Held anc n s′ x p
       goes u w z v (inl e) = absurd (u e)
       goes u w z (inr v) (inr y) = inr (inr (u, w, inr (y .0, rooted z, inr (kept ask p x d v))))
       goes u w z (inl v) (inr y) =
           asks x u w (y .0) (rooted z)
-          (λ c. ⊎-elim (λ (b : Leads anc n p (rankAt s p) x). absurd (clash (has (children anc n (rankAt s p .marks) p) x) b v)) (λ (b : Says f g ask x). t .joins ask x b) (y .1 x c))
+          (λ c. ⊎-elim (λ (b : Leads anc n p (s .rank p) x). absurd (clash (has (children anc n (s .rank p .marks) p) x) b v)) (λ (b : Says f g ask x). t .joins ask x b) (y .1 x c))
 
-      go : Flies s′ down p x ⊎ InDebt anc n (rankAt s′ p) x → Held anc n s′ x p
+      go : Flies s′ down p x ⊎ InDebt anc n (s′ .rank p) x → Held anc n s′ x p
       go (inl h) = inr (inl h)
       go (inr h) =
-          ⊎-elim (λ (y : has (rankAt s p .heard) x ≡ true). ⊎-elim (λ (v : has (rankAt s′ p .heard) x ≡ true). inr (inr (h .0, h .1, inl v)))
-          (λ (v : Polls anc n p (rankAt s′ p) f g). asks x (h .0) (h .1) (v .gathers) (v .root) (λ c. t .joins ask x (v .each x c))) (t .turn .heard-stays (h .0) x y))
-          (λ (y : (rankAt s p .phase ≡ gathering) × NoParent anc p (rankAt s p) × ((has (children anc n (rankAt s p .marks) p) x ≡ false) ⊎ Flies s ask p x)). goes (h .0) (h .1) (y .1) (y .2) (t .turn .goes-on (y .0) (y .1))) (o .2)
+          ⊎-elim (λ (y : has (s .rank p .heard) x ≡ true). ⊎-elim (λ (v : has (s′ .rank p .heard) x ≡ true). inr (inr (h .0, h .1, inl v)))
+          (λ (v : Polls anc n p (s′ .rank p) f g). asks x (h .0) (h .1) (v .gathers) (v .root) (λ c. t .joins ask x (v .each x c))) (t .turn .heard-stays (h .0) x y))
+          (λ (y : (s .rank p .phase ≡ gathering) × NoParent anc p (s .rank p) × ((has (children anc n (s .rank p .marks) p) x ≡ false) ⊎ Flies s ask p x)). goes (h .0) (h .1) (y .1) (y .2) (t .turn .goes-on (y .0) (y .1))) (o .2)
 
   -- it takes x's report
-  hears : (x : ℕ) → Lives n s′ x → q ≡ x → Says f g down q ⊎ ((rankAt s p .phase ≡ decided → ⊥) × (has (rankAt s′ p .heard) q ≡ true) × (has (rankAt s′ p .owed) q ≡ true)) → Held anc n s′ x p
+  hears : (x : ℕ) → Lives n s′ x → q ≡ x → Says f g down q ⊎ ((s .rank p .phase ≡ decided → ⊥) × (has (s′ .rank p .heard) q ≡ true) × (has (s′ .rank p .owed) q ≡ true)) → Held anc n s′ x p
   hears x l e (inl h) = inr (inl (subst (Flies s′ down p) e (t .joins down q h)))
   hears x l e (inr h) =
-      ⊎-elim (λ (y : Flies s′ down p x). inr (inl y)) (λ (y : InDebt anc n (rankAt s′ p) x). inr (inr (y .0, y .1, inl (subst (λ (z : ℕ). has (rankAt s′ p .heard) z ≡ true) e (h .1)))))
-      (repaid x l (h .0) (subst (λ (z : ℕ). has (rankAt s′ p .owed) z ≡ true) e (h .2)))
+      ⊎-elim (λ (y : Flies s′ down p x). inr (inl y)) (λ (y : InDebt anc n (s′ .rank p) x). inr (inr (y .0, y .1, inl (subst (λ (z : ℕ). has (s′ .rank p .heard) z ≡ true) e (h .1)))))
+      (repaid x l (h .0) (subst (λ (z : ℕ). has (s′ .rank p .owed) z ≡ true) e (h .2)))
 
   own-holds : (x : ℕ) → Lives n s′ x → (x ≡ p → ⊥) → Held anc n s x p → Held anc n s′ x p
   own-holds x l d (inl h) = ⊎-elim (λ (y : Flies s′ up x p). inl y) (λ (y : (kind ≡ up) × (q ≡ x)). hears x l (y .1) (t .turn .takes-up (y .0))) (still up x h)
@@ -131,9 +129,9 @@ module _ (anc : ℕ → ℕ) (tree : Ancestry anc) (chain : Chained anc) (n : �
   others-held x a dx da (inl h) = inl (kept up x a da h)
   others-held x a dx da (inr (inl h)) = inr (inl (kept down a x dx h))
   others-held x a dx da (inr (inr h)) =
-      inr (inr (owes-on anc n (Flies s ask a x) (Flies s′ ask a x) a (rankAt s′ a) x (kept ask a x dx) (subst (λ (r : Rank). Owes anc n (Flies s ask a x) a r x) (sym (t .others a da)) h)))
+      inr (inr (owes-on anc n (Flies s ask a x) (Flies s′ ask a x) a (s′ .rank a) x (kept ask a x dx) (subst (λ (r : Rank). Owes anc n (Flies s ask a x) a r x) (sym (t .others a da)) h)))
 
-  pub held′ : (x a : ℕ) → Lives n s′ x → rankAt s′ x .phase ≡ waiting → parent anc (rankAt s′ x .marks) x ≡ a → Lives n s′ a → Held anc n s′ x a
+  pub held′ : (x a : ℕ) → Lives n s′ x → s′ .rank x .phase ≡ waiting → parent anc (s′ .rank x .marks) x ≡ a → Lives n s′ a → Held anc n s′ x a
   held′ x a lx w e la = go (eq-or-ne x p) (eq-or-ne a p)
     where
       old : (x ≡ p → ⊥) → Held anc n s x a
@@ -142,38 +140,38 @@ module _ (anc : ℕ → ℕ) (tree : Ancestry anc) (chain : Chained anc) (n : �
       go : (x ≡ p) ⊎ (x ≡ p → ⊥) → (a ≡ p) ⊎ (a ≡ p → ⊥) → Held anc n s′ x a
       go (inl y) z =
           subst (λ (b : ℕ). Held anc n s′ b a) (sym y)
-          (own-held a (subst (Lives n s′) y lx) (subst (λ (b : ℕ). rankAt s′ b .phase ≡ waiting) y w) (subst (λ (b : ℕ). parent anc (rankAt s′ b .marks) b ≡ a) y e) la)
+          (own-held a (subst (Lives n s′) y lx) (subst (λ (b : ℕ). s′ .rank b .phase ≡ waiting) y w) (subst (λ (b : ℕ). parent anc (s′ .rank b .marks) b ≡ a) y e) la)
       go (inr y) (inl z) = subst (Held anc n s′ x) (sym z) (own-holds x lx y (subst (Held anc n s x) z (old y)))
       go (inr y) (inr z) = others-held x a y z (old y)
 
   -- ---- this rank polls c
 
-  calm-gathers : Calm anc n s → rankAt s′ p .phase ≡ gathering → Calm anc n s′
+  calm-gathers : Calm anc n s → s′ .rank p .phase ≡ gathering → Calm anc n s′
   calm-gathers c e = lasts c (λ z. omega arith)
 
-  polls-on : (c : ℕ) → (c ≡ p → ⊥) → rankAt s′ p .phase ≡ gathering → Polled anc n s p c → Polled anc n s′ p c
+  polls-on : (c : ℕ) → (c ≡ p → ⊥) → s′ .rank p .phase ≡ gathering → Polled anc n s p c → Polled anc n s′ p c
   polls-on c d e (inl h) = inl (calm-gathers h e)
   polls-on c d e (inr (inl h)) = inr (inl (kept ask p c d h))
   polls-on c d e (inr (inr (inl h))) = inr (inr (inl (subst (λ (r : Rank). InDebt anc n r p) (sym (t .others c d)) h)))
   polls-on c d e (inr (inr (inr h))) =
       ⊎-elim (λ (y : Flies s′ down c p). inr (inr (inr y))) (λ (y : (kind ≡ down) × (q ≡ c)). absurd (t .turn .takes-down (y .0) .0 e)) (still down c h)
 
-  own-polls : (c : ℕ) → (c ≡ p → ⊥) → Lives n s′ p → rankAt s′ p .phase ≡ gathering → NoParent anc p (rankAt s′ p) → Lives n s′ c → Leads anc n p (rankAt s′ p) c → Polled anc n s′ p c
+  own-polls : (c : ℕ) → (c ≡ p → ⊥) → Lives n s′ p → s′ .rank p .phase ≡ gathering → NoParent anc p (s′ .rank p) → Lives n s′ c → Leads anc n p (s′ .rank p) c → Polled anc n s′ p c
   own-polls c d lp e z lc k = go (t .turn .was-gathering e)
     where
-      gained : rankAt s p .phase ≡ gathering → NoParent anc p (rankAt s p)
-          → (rankAt s′ p .phase ≡ decided) ⊎ ((rankAt s′ p .phase ≡ gathering) × ((b : ℕ) → Leads anc n p (rankAt s′ p) b → Leads anc n p (rankAt s p) b ⊎ Says f g ask b)) → Polled anc n s′ p c
+      gained : s .rank p .phase ≡ gathering → NoParent anc p (s .rank p)
+          → (s′ .rank p .phase ≡ decided) ⊎ ((s′ .rank p .phase ≡ gathering) × ((b : ℕ) → Leads anc n p (s′ .rank p) b → Leads anc n p (s .rank p) b ⊎ Says f g ask b)) → Polled anc n s′ p c
       gained y v (inl h) = absurd (omega arith)
       gained y v (inr h) =
-          ⊎-elim (λ (b : Leads anc n p (rankAt s p) c). polls-on c d e (inv .polled p c (alive p lp) y v (alive c lc) b)) (λ (b : Says f g ask c). inr (inl (t .joins ask c b))) (h .1 c k)
+          ⊎-elim (λ (b : Leads anc n p (s .rank p) c). polls-on c d e (inv .polled p c (alive p lp) y v (alive c lc) b)) (λ (b : Says f g ask c). inr (inl (t .joins ask c b))) (h .1 c k)
 
-      gathers : rankAt s p .phase ≡ gathering → (parent anc (rankAt s p .marks) p ≡ none) ⊎ (parent anc (rankAt s p .marks) p ≡ none → ⊥) → Polled anc n s′ p c
+      gathers : s .rank p .phase ≡ gathering → (parent anc (s .rank p .marks) p ≡ none) ⊎ (parent anc (s .rank p .marks) p ≡ none → ⊥) → Polled anc n s′ p c
       gathers y (inl v) = gained y v (t .turn .goes-on y v)
       gathers y (inr v) = inl (calm-gathers (inv .new-calm p (alive p lp, inr (y, v))) e)
 
-      go : (rankAt s p .phase ≡ outside) ⊎ ((rankAt s p .phase ≡ gathering) ⊎ ((rankAt s p .phase ≡ waiting) × Polls anc n p (rankAt s′ p) f g)) → Polled anc n s′ p c
+      go : (s .rank p .phase ≡ outside) ⊎ ((s .rank p .phase ≡ gathering) ⊎ ((s .rank p .phase ≡ waiting) × Polls anc n p (s′ .rank p) f g)) → Polled anc n s′ p c
       go (inl y) = inl (calm-gathers (inv .new-calm p (alive p lp, inl y)) e)
-      go (inr (inl y)) = gathers y (eq-or-ne (parent anc (rankAt s p .marks) p) none)
+      go (inr (inl y)) = gathers y (eq-or-ne (parent anc (s .rank p .marks) p) none)
       go (inr (inr y)) = inr (inl (t .joins ask c (y .1 .each c k)))
 
   -- ---- this rank is polled by a
@@ -182,9 +180,9 @@ module _ (anc : ℕ → ℕ) (tree : Ancestry anc) (chain : Chained anc) (n : �
   below-root : (a : ℕ) → Lives n s′ a → a < p → Calm anc n s → Undecided
   below-root a la l c e =
       let o = t .own in
-      clash (has (rankAt s′ p .marks) a) (no-parent-all anc (rankAt s′ p .marks) p (omega arith) (only-root anc tree chain n small s s′ p kind q f g t true′ inv c e .0) a l) (free a la)
+      clash (has (s′ .rank p .marks) a) (no-parent-all anc (s′ .rank p .marks) p (omega arith) (only-root anc tree chain n small s s′ p kind q f g t true′ inv c e .0) a l) (free a la)
 
-  paid : (a : ℕ) → Flies s′ down p a ⊎ InDebt anc n (rankAt s′ p) a → Polled anc n s′ a p
+  paid : (a : ℕ) → Flies s′ down p a ⊎ InDebt anc n (s′ .rank p) a → Polled anc n s′ a p
   paid a (inl h) = inr (inr (inr h))
   paid a (inr h) = inr (inr (inl h))
 
@@ -192,9 +190,9 @@ module _ (anc : ℕ → ℕ) (tree : Ancestry anc) (chain : Chained anc) (n : �
   own-polled a d la l (inl h) = inl (lasts h (below-root a la l h))
   own-polled a d la l (inr (inl h)) = go (still ask a h)
     where
-      answers : q ≡ a → Says f g down q ⊎ ((rankAt s p .phase ≡ decided → ⊥) × (has (rankAt s′ p .owed) q ≡ true)) → Polled anc n s′ a p
+      answers : q ≡ a → Says f g down q ⊎ ((s .rank p .phase ≡ decided → ⊥) × (has (s′ .rank p .owed) q ≡ true)) → Polled anc n s′ a p
       answers e (inl y) = inr (inr (inr (subst (Flies s′ down p) e (t .joins down q y))))
-      answers e (inr y) = paid a (repaid a la (y .0) (subst (λ (z : ℕ). has (rankAt s′ p .owed) z ≡ true) e (y .1)))
+      answers e (inr y) = paid a (repaid a la (y .0) (subst (λ (z : ℕ). has (s′ .rank p .owed) z ≡ true) e (y .1)))
 
       go : Flies s′ ask a p ⊎ ((kind ≡ ask) × (q ≡ a)) → Polled anc n s′ a p
       go (inl y) = inr (inl y)
@@ -205,7 +203,7 @@ module _ (anc : ℕ → ℕ) (tree : Ancestry anc) (chain : Chained anc) (n : �
   -- ---- others
 
   -- of two roots that live, each knows the other dead if it is smaller
-  no-second-root : (a : ℕ) → Lives n s′ a → (a ≡ p → ⊥) → NoParent anc a (rankAt s′ a) → Calm anc n s → Undecided
+  no-second-root : (a : ℕ) → Lives n s′ a → (a ≡ p → ⊥) → NoParent anc a (s′ .rank a) → Calm anc n s → Undecided
   no-second-root a la d z c e = go (lt-or-le a p)
     where
       lp : Lives n s′ p
@@ -215,20 +213,20 @@ module _ (anc : ℕ → ℕ) (tree : Ancestry anc) (chain : Chained anc) (n : �
       go (inl l) = below-root a la l c e
       go (inr l) =
           let o = la .0 in
-          let y : has (s′ .group .dead) p ≡ true = true′ a p (la .0) (no-parent-all anc (rankAt s′ a .marks) a (omega arith) z p (omega arith)) in
-          clash (has (s′ .group .dead) p) y (lp .1)
+          let y : has (s′ .dead) p ≡ true = true′ a p (la .0) (no-parent-all anc (s′ .rank a .marks) a (omega arith) z p (omega arith)) in
+          clash (has (s′ .dead) p) y (lp .1)
 
-  others-polled : (a c : ℕ) → (a ≡ p → ⊥) → (c ≡ p → ⊥) → Lives n s′ a → NoParent anc a (rankAt s′ a) → Polled anc n s a c → Polled anc n s′ a c
+  others-polled : (a c : ℕ) → (a ≡ p → ⊥) → (c ≡ p → ⊥) → Lives n s′ a → NoParent anc a (s′ .rank a) → Polled anc n s a c → Polled anc n s′ a c
   others-polled a c da dc la z (inl h) = inl (lasts h (no-second-root a la da z h))
   others-polled a c da dc la z (inr (inl h)) = inr (inl (kept ask a c dc h))
   others-polled a c da dc la z (inr (inr (inl h))) = inr (inr (inl (subst (λ (r : Rank). InDebt anc n r a) (sym (t .others c dc)) h)))
   others-polled a c da dc la z (inr (inr (inr h))) = inr (inr (inr (kept down c a da h)))
 
-  pub polled′ : (a c : ℕ) → Lives n s′ a → rankAt s′ a .phase ≡ gathering → NoParent anc a (rankAt s′ a) → Lives n s′ c → Leads anc n a (rankAt s′ a) c → Polled anc n s′ a c
+  pub polled′ : (a c : ℕ) → Lives n s′ a → s′ .rank a .phase ≡ gathering → NoParent anc a (s′ .rank a) → Lives n s′ c → Leads anc n a (s′ .rank a) c → Polled anc n s′ a c
   polled′ a c la e z lc k = go (eq-or-ne a p) (eq-or-ne c p)
     where
       a<c : a < c
-      a<c = let h = la .0 in child-gt anc n (rankAt s′ a .marks) a c (omega arith) (child-o anc n (rankAt s′ a .marks) a c k)
+      a<c = let h = la .0 in child-gt anc n (s′ .rank a .marks) a c (omega arith) (child-o anc n (s′ .rank a .marks) a c k)
 
       old : (a ≡ p → ⊥) → Polled anc n s a c
       old d = inv .polled a c (alive a la) (subst (λ (r : Rank). r .phase ≡ gathering) (t .others a d) e) (subst (NoParent anc a) (t .others a d) z) (alive c lc) (subst (λ (r : Rank). Leads anc n a r c) (t .others a d) k)
@@ -236,6 +234,6 @@ module _ (anc : ℕ → ℕ) (tree : Ancestry anc) (chain : Chained anc) (n : �
       go : (a ≡ p) ⊎ (a ≡ p → ⊥) → (c ≡ p) ⊎ (c ≡ p → ⊥) → Polled anc n s′ a c
       go (inl y) v =
           subst (λ (b : ℕ). Polled anc n s′ b c) (sym y)
-          (own-polls c (λ x. let l = a<c in omega arith) (subst (Lives n s′) y la) (subst (λ (b : ℕ). rankAt s′ b .phase ≡ gathering) y e) (subst (λ (b : ℕ). NoParent anc b (rankAt s′ b)) y z) lc (subst (λ (b : ℕ). Leads anc n b (rankAt s′ b) c) y k))
+          (own-polls c (λ x. let l = a<c in omega arith) (subst (Lives n s′) y la) (subst (λ (b : ℕ). s′ .rank b .phase ≡ gathering) y e) (subst (λ (b : ℕ). NoParent anc b (s′ .rank b)) y z) lc (subst (λ (b : ℕ). Leads anc n b (s′ .rank b) c) y k))
       go (inr y) (inl v) = subst (Polled anc n s′ a) (sym v) (own-polled a y la (subst (λ (b : ℕ). a < b) v a<c) (subst (Polled anc n s a) v (old y)))
       go (inr y) (inr v) = others-polled a c y v la z (old y)

@@ -10,6 +10,7 @@ use Rattle.tree.proofs.Laws.Flat.{flat-ancestry, flat-chained}
 use Rattle.state.specs.declared.State.{State}
 use Rattle.state.specs.Starting.{freshState}
 use Rattle.group.specs.Reaching.{Reaches}
+use Rattle.group.proofs.Scenes.{scene}
 use Rattle.group.proofs.Laws.Reached.{reached-small, reached-member}
 use Rattle.files.specs.Files.{byteAt}
 use Rattle.schedule.specs.Runs.{run}
@@ -23,7 +24,7 @@ use Rattle.agreement.proofs.Progress.Deciding.{all-decided}
 -- ---- a fresh group
 
 module _ (anc : ℕ → ℕ) (n : ℕ) (small : n ≤ 64) where
-  fresh-stands : Progress anc n (freshState anc n)
+  fresh-stands : Progress anc n (scene (freshState anc n))
   fresh-stands = record {
     heard-old = λ p q l h. absurd (none-heard anc n small p q l h);
     report-old = λ q b h. absurd (quiet anc n small _ q b h);
@@ -36,15 +37,15 @@ module _ (anc : ℕ → ℕ) (n : ℕ) (small : n ≤ 64) where
 -- ---- every reached state
 
 -- The invariant holds in it.
-reached-stands : (anc : ℕ → ℕ) → Ancestry anc → Chained anc → (n : ℕ) (s : State) → Reaches anc n s → Progress anc n s
+reached-stands : (anc : ℕ → ℕ) → Ancestry anc → Chained anc → (n : ℕ) (s : State) → Reaches anc n s → Progress anc n (scene s)
 reached-stands anc tree chain n = every-reached anc tree n (Progress anc n) (fresh-stands anc n) (λ E s s′ small true′ inv m. a-move-keeps anc tree chain n small s s′ true′ inv E m)
 
 -- With no message in flight, all living ranks in and all deaths known, every living rank has decided.
 pub nobody-hangs : (anc : ℕ → ℕ) → Ancestry anc → Chained anc → NobodyHangs anc
 nobody-hangs anc tree chain n s run quiet-end entered known =
-    all-decided anc n (reached-small anc n s run .1) s (reached-stands anc tree chain n s run)
+    all-decided anc n (reached-small anc n s run .1) (scene s) (reached-stands anc tree chain n s run)
     (λ i l. reached-member anc n s run i l .in-order)
-    (reached-truthful anc n s run) quiet-end entered known
+    (reached-truthful anc n s run) (λ kind from to h. let l = h .1 .listed in omega (arith, quiet-end)) entered known
 
 pub nobody-hangs-in-the-flat-tree : NobodyHangs flat
 nobody-hangs-in-the-flat-tree = nobody-hangs flat flat-ancestry flat-chained

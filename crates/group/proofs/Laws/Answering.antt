@@ -2,7 +2,7 @@
 -- Over any ancestor sets. Assumes nothing.
 use mathlib.Core.Path.{_≡_, refl, ap, _∙_}
 use mathlib.Core.Bool.{false, _||_}
-use mathlib.Core.Logic.{inr}
+use mathlib.Core.Logic.{inl, inr}
 use Prim.Native.Nat.{ℕ, _≤_, _<_}
 use native.Mathlib.Omega.{arith}
 use Rattle.sets.specs.Sets.{has}
@@ -32,7 +32,7 @@ module _ (anc : ℕ → ℕ) (s : State) (o : InOrder anc s) (a b : ℕ) (z : ev
   unfolding doing
   notice-answers =
       moved-is anc s o (eventOf 4 a b) z ∙ Knowing.notice-moves anc _ _ _ _ _ _ _ refl
-      ∙ ap (λ (i : ℕ). moved anc (s .group .n) (rankAt s i .marks) b) (named-rank s (eventOf 4 a b) (names-a-rank 4 (inr (inr refl)) .1))
+      ∙ ap (λ (i : ℕ). moved anc (s .group .n) (rankAt s i .marks) b) (named-rank s (eventOf 4 a b) (names-a-rank 4 (inr (inr (inl refl))) .1))
 
   pub notice-who : (p : ℕ) → has (event anc s (eventOf 4 a b) .moved .ranks) p ≡ endedAt (s .group .n) b (rankAt (event anc s (eventOf 4 a b) .state) a .marks) (rowAt s a) p
   notice-who p =

@@ -3,45 +3,46 @@ use mathlib.Core.Path.{_≡_, refl, sym, subst}
 use mathlib.Core.Bool.{Bool, true, false, cond}
 use mathlib.Core.List.{List, _++_}
 use mathlib.Core.Logic.{_⊎_, inl, inr, ⊎-elim}
-use Prim.Native.Nat.{ℕ, _+_, _<_}
+use Prim.Native.Nat.{ℕ, _<_}
 use lib.ListN.{getD}
 use Rattle.sets.specs.Sets.{has}
 use Rattle.rank.specs.declared.Send.{Send}
 use Rattle.rank.specs.declared.Message.{Message}
 use Rattle.rank.specs.Sends.{letters}
+use Rattle.rank.specs.declared.Triple.{Triple}
 use Rattle.rank.proofs.Turn.{Says}
-use Rattle.rank.proofs.Speech.{SaysWord}
+use Rattle.rank.proofs.Speech.{SaysTriple}
 use Rattle.net.specs.Net.{zeroMessage, padded, without}
 use Rattle.net.proofs.Laws.Net.{padded-in}
-use Rattle.net.proofs.Laws.Among.{Among, among-left, among-right, among-cases, without-among, among-without, letters-among, among-letters, Named, Worded}
+use Rattle.net.proofs.Laws.Among.{Among, among-left, among-right, among-cases, without-among, among-without, letters-among, among-letters, Named, Bearing}
 use Rattle.state.specs.declared.State.{State}
 use Rattle.state.specs.States.{flying}
 use Rattle.plans.specs.declared.Plan.{Plan}
 use Rattle.group.specs.Events.{posted, applied}
-use Rattle.group.proofs.Moves.{Flies, Carries}
+use Rattle.group.proofs.Scenes.{Flies, CarriesIn, scene}
 
 -- ---- the list after a plan
 
-module _ (k b x w : ℕ) where
-  letters-said : (me : ℕ) (f : Send) → Among (Worded k b x w) (letters me f) → (b ≡ me) × (f .kind ≡ k) × (f .word ≡ w) × (has (f .to) x ≡ true)
-  letters-said me f m = go (letters-among (Worded k b x w) me f m)
+module _ (k b x : ℕ) (w : Triple) where
+  letters-said : (me : ℕ) (f : Send) → Among (Bearing k b x w) (letters me f) → (b ≡ me) × (f .kind ≡ k) × (f .triple ≡ w) × (has (f .to) x ≡ true)
+  letters-said me f m = go (letters-among (Bearing k b x w) me f m)
     where
-      go : (q : ℕ) × (has (f .to) q ≡ true) × (((f .kind ≡ k) × (me ≡ b) × (q ≡ x)) × (f .word ≡ w)) → (b ≡ me) × (f .kind ≡ k) × (f .word ≡ w) × (has (f .to) x ≡ true)
+      go : (q : ℕ) × (has (f .to) q ≡ true) × (((f .kind ≡ k) × (me ≡ b) × (q ≡ x)) × (f .triple ≡ w)) → (b ≡ me) × (f .kind ≡ k) × (f .triple ≡ w) × (has (f .to) x ≡ true)
       go (q, t, e) = (sym (e .0 .1), e .0 .0, e .1, subst (λ (y : ℕ). has (f .to) y ≡ true) (e .0 .2) t)
 
   -- what is left is of before, and what joined is one of the sends
-  pub posted-was : (l : List Message) (place me : ℕ) (p : Plan) → Among (Worded k b x w) (posted l place me p) → Among (Worded k b x w) l ⊎ ((b ≡ me) × SaysWord (p .acted .first) (p .acted .second) k w x)
+  pub posted-was : (l : List Message) (place me : ℕ) (p : Plan) → Among (Bearing k b x w) (posted l place me p) → Among (Bearing k b x w) l ⊎ ((b ≡ me) × SaysTriple (p .acted .first) (p .acted .second) k w x)
   unfolding posted
-  posted-was l place me p m = ⊎-elim early (λ (t : Among (Worded k b x w) (letters me (p .acted .second))). let u = letters-said me (p .acted .second) t in inr (u .0, inr (u .1, u .2, u .3))) (among-cases (Worded k b x w) (cond (p .leaves) (without place l) l ++ letters me (p .acted .first)) (letters me (p .acted .second)) m)
+  posted-was l place me p m = ⊎-elim early (λ (t : Among (Bearing k b x w) (letters me (p .acted .second))). let u = letters-said me (p .acted .second) t in inr (u .0, inr (u .1, u .2, u .3))) (among-cases (Bearing k b x w) (cond (p .leaves) (without place l) l ++ letters me (p .acted .first)) (letters me (p .acted .second)) m)
     where
-      rest : (t : Bool) → Among (Worded k b x w) (cond t (without place l) l) → Among (Worded k b x w) l
-      rest true n = without-among (Worded k b x w) place l n
+      rest : (t : Bool) → Among (Bearing k b x w) (cond t (without place l) l) → Among (Bearing k b x w) l
+      rest true n = without-among (Bearing k b x w) place l n
       rest false n = n
 
-      early : Among (Worded k b x w) (cond (p .leaves) (without place l) l ++ letters me (p .acted .first)) → Among (Worded k b x w) l ⊎ ((b ≡ me) × SaysWord (p .acted .first) (p .acted .second) k w x)
+      early : Among (Bearing k b x w) (cond (p .leaves) (without place l) l ++ letters me (p .acted .first)) → Among (Bearing k b x w) l ⊎ ((b ≡ me) × SaysTriple (p .acted .first) (p .acted .second) k w x)
       early n =
-          ⊎-elim (λ (t : Among (Worded k b x w) (cond (p .leaves) (without place l) l)). inl (rest (p .leaves) t)) (λ (t : Among (Worded k b x w) (letters me (p .acted .first))). let u = letters-said me (p .acted .first) t in inr (u .0, inl (u .1, u .2, u .3)))
-          (among-cases (Worded k b x w) (cond (p .leaves) (without place l) l) (letters me (p .acted .first)) n)
+          ⊎-elim (λ (t : Among (Bearing k b x w) (cond (p .leaves) (without place l) l)). inl (rest (p .leaves) t)) (λ (t : Among (Bearing k b x w) (letters me (p .acted .first))). let u = letters-said me (p .acted .first) t in inr (u .0, inl (u .1, u .2, u .3)))
+          (among-cases (Bearing k b x w) (cond (p .leaves) (without place l) l) (letters me (p .acted .first)) n)
 
 module _ (k b x : ℕ) where
   -- only the message that leaves is gone
@@ -64,14 +65,13 @@ posted-joins l place me p k x h (inr t) = among-right (Named k me x) (cond (p .l
 -- ---- the messages in flight after a plan
 
 module _ (s : State) (place me : ℕ) (p : Plan) (k b x : ℕ) where
-  pub applied-flies : Among (Named k b x) (posted (flying s) place me p) → Flies (applied s place me p) k b x
+  pub applied-flies : Among (Named k b x) (posted (flying s) place me p) → Flies (scene (applied s place me p)) k b x
   unfolding applied
   applied-flies m =
       let t : Named k b x (getD (padded (posted (flying s) place me p)) (m .place) zeroMessage) = subst (Named k b x) (sym (padded-in (posted (flying s) place me p) (m .place) (m .inside))) (m .so) in
-      record { place = m .place; listed = m .inside; kind-is = t .0; from-is = t .1; to-is = t .2 }
+      (_, record { place = m .place; listed = m .inside; kind-is = t .0; from-is = t .1; to-is = t .2; triple-is = refl })
 
-  pub carries-applied : (w : ℕ) → Carries (applied s place me p) k b x w → Among (Worded k b x w) (posted (flying s) place me p)
+  pub carries-applied : (w : Triple) → CarriesIn (applied s place me p) k b x w → Among (Bearing k b x w) (posted (flying s) place me p)
   unfolding applied
   carries-applied w m =
-      let n = m .flies in
-      record { place = n .place; inside = n .listed; so = subst (Worded k b x w) (padded-in (posted (flying s) place me p) (n .place) (n .listed)) ((n .kind-is, n .from-is, n .to-is), m .word-is) }
+      record { place = m .place; inside = m .listed; so = subst (Bearing k b x w) (padded-in (posted (flying s) place me p) (m .place) (m .listed)) ((m .kind-is, m .from-is, m .to-is), m .triple-is) }

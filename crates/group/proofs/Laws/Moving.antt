@@ -129,7 +129,7 @@ module _ (anc : ℕ → ℕ) (s : State) (o : InOrder anc s) (a b : ℕ) (z : ev
   pub notice-about : (subjectOf s (eventOf 4 a b) ≡ a) × (a < s .group .n) × (b < s .group .n)
   notice-about =
       let c = step-taken anc s (eventOf 4 a b) (event-accepted anc s (eventOf 4 a b) o z) .clean in
-      let t = names-a-rank 4 (inr (inr refl)) in
+      let t = names-a-rank 4 (inr (inr (inl refl))) in
       let l = clean-rank _ _ _ _ _ _ c (t .0) .0 in
       (subject-named s (eventOf 4 a b) (t .1) l, l, clean-notice _ _ _ _ _ _ c refl)
 

@@ -77,7 +77,7 @@ module _ (anc : ℕ → ℕ) (s : State) (f : InOrderFacts anc s) (ev : Event) (
 
       notice : ev .kind ≡ 4 → (ev .b < s .group .n) × (has (s .group .dead) (ev .b) ≡ true) × (has (s .group .dead) (subjectOf s ev) ≡ false)
       notice k =
-          let t = names-a-rank (ev .kind) (inr (inr k)) in
+          let t = names-a-rank (ev .kind) (inr (inr (inl k))) in
           let x = named (t .0) (t .1) in
           (clean-notice _ _ _ _ _ _ (ok .clean) k, clean-told _ _ _ _ _ _ (ok .clean) k, subst (λ (y : ℕ). has (s .group .dead) y ≡ false) (sym (x .0)) (x .2))
 

@@ -1,5 +1,5 @@
--- What a line depends on, how long it may be, and a result along its code. Assumes nothing.
-use mathlib.Core.Path.{_≡_}
+-- What a line depends on, how long it may be, and a verdict along its code. Assumes nothing.
+use mathlib.Core.Path.{_≡_, subst}
 use mathlib.Core.Bool.{Bool, true, false, cond}
 use mathlib.Core.List.{List, [], _∷_, _++_}
 use Prim.Native.Nat.{ℕ, _+_, _*_, _≤_}
@@ -9,10 +9,11 @@ use lib.ListN.{length, getD, length-append}
 use borrow.Author.Tests.{eq-eqb, ne-eqb}
 use Rattle.rank.specs.declared.Rank.{Rank}
 use Rattle.rank.specs.Words.{decided}
+use Rattle.rank.specs.Triples.{code}
 use Rattle.text.specs.Text.{Wrote, decimal, field}
 use Rattle.text.proofs.Laws.Writing.{wrote-then}
 use Rattle.text.proofs.Laws.Digits.{length-decimal, length-field}
-use Rattle.lines.specs.Lines.{firstLine, eventLine, living, resultField, rankLine, lastLine, refusedLine}
+use Rattle.lines.specs.Lines.{firstLine, eventLine, living, verdictField, rankLine, lastLine, refusedLine}
 
 -- ---- event lines and rank lines
 
@@ -40,37 +41,43 @@ pub event-same : (a b : List ℕ) (k : ℕ) → getD a (3 * k) 0 ≡ getD b (3 *
 unfolding eventLine
 event-same a b k x y z = rw (x, y, z)
 
-pub length-result : (phase result : ℕ) → length (resultField phase result) ≤ 11
-unfolding resultField
-length-result phase result = go (eqb phase decided)
+pub length-verdict : (phase number : ℕ) → length (verdictField phase number) ≤ 11
+unfolding verdictField
+length-verdict phase number = go (eqb phase decided)
   where
-    go : (b : Bool) → length (cond b (field result) (32 ∷ 45 ∷ [])) ≤ 11
-    go true = length-field result
+    go : (b : Bool) → length (cond b (field number) (32 ∷ 45 ∷ [])) ≤ 11
+    go true = length-field number
     go false = omega arith
 
-pub result-decided : (text : List ℕ) (at phase result : ℕ) (t : List ℕ) (a : ℕ) → phase ≡ decided → Wrote text at (field result) t a → Wrote text at (resultField phase result) t a
-unfolding resultField
-result-decided text at phase result t a e w = rw (eq-eqb phase decided e) w
+pub verdict-decided : (text : List ℕ) (at phase number : ℕ) (t : List ℕ) (a : ℕ) → phase ≡ decided → Wrote text at (field number) t a → Wrote text at (verdictField phase number) t a
+unfolding verdictField
+verdict-decided text at phase number t a e w = rw (eq-eqb phase decided e) w
 
-pub result-dash : (text : List ℕ) (at phase result : ℕ) (t : List ℕ) (a : ℕ) (u : List ℕ) (b : ℕ) → (phase ≡ decided → ⊥) → Wrote text at (32 ∷ []) t a → Wrote t a (45 ∷ []) u b → Wrote text at (resultField phase result) u b
-unfolding resultField
-result-dash text at phase result t a u b d v w = rw (ne-eqb phase decided d) (wrote-then v w)
+pub verdict-dash : (text : List ℕ) (at phase number : ℕ) (t : List ℕ) (a : ℕ) (u : List ℕ) (b : ℕ) → (phase ≡ decided → ⊥) → Wrote text at (32 ∷ []) t a → Wrote t a (45 ∷ []) u b → Wrote text at (verdictField phase number) u b
+unfolding verdictField
+verdict-dash text at phase number t a u b d v w = rw (ne-eqb phase decided d) (wrote-then v w)
 
-pub length-rank : (dead i : ℕ) (r : Rank) → length (rankLine dead i r) ≤ 46
+pub verdict-of : {text : List ℕ} {at : ℕ} {t : List ℕ} {a x y : ℕ} (phase : ℕ) → x ≡ y → Wrote text at (verdictField phase x) t a → Wrote text at (verdictField phase y) t a
+verdict-of {text} {at} {t} {a} phase e w = subst (λ (z : ℕ). Wrote text at (verdictField phase z) t a) e w
+
+pub length-rank : (dead i : ℕ) (r : Rank) → length (rankLine dead i r) ≤ 57
 unfolding rankLine
 length-rank dead i r =
     let a = living dead i in
-    let d = resultField (r .phase) (r .result) in
+    let d = verdictField (r .phase) (r .result .word) in
+    let e = verdictField (r .phase) (code (r .result)) in
     omega (
       arith,
-      length-append (field i) (field a ++ (field (r .phase) ++ (d ++ (10 ∷ [])))),
-      length-append (field a) (field (r .phase) ++ (d ++ (10 ∷ []))),
-      length-append (field (r .phase)) (d ++ (10 ∷ [])),
-      length-append d (10 ∷ []),
+      length-append (field i) (field a ++ (field (r .phase) ++ (d ++ (e ++ (10 ∷ []))))),
+      length-append (field a) (field (r .phase) ++ (d ++ (e ++ (10 ∷ [])))),
+      length-append (field (r .phase)) (d ++ (e ++ (10 ∷ []))),
+      length-append d (e ++ (10 ∷ [])),
+      length-append e (10 ∷ []),
       length-field i,
       length-field a,
       length-field (r .phase),
-      length-result (r .phase) (r .result),
+      length-verdict (r .phase) (r .result .word),
+      length-verdict (r .phase) (code (r .result)),
     )
 
 -- ---- the room that a listing takes

@@ -1,4 +1,4 @@
--- `put_rank` meets its contract: one piece after the other, 46 bytes at most. Assumes nothing.
+-- `put_rank` meets its contract: one piece after the other, 57 bytes at most. Assumes nothing.
 use borrow.Author.Needs.{needs}
 use native.Mathlib.Omega.{arith}
 use Rattle.text.proofs.Laws.Writing.{wrote-then, wrote-room}
@@ -20,14 +20,14 @@ put-field-requires-2 : tie.Need-put-field-requires-2
 put-field-requires-2 c κs =
     let rank = c .before .before .before .before in
     let letter = rank .before .before .before .before in
-    omega (arith, wrote-room 11 34 (rank .put-field .ensures) (length-field _) (wrote-room 1 45 (letter .put-byte .ensures) (omega arith) (letter .before .before .before .pre .0)))
+    omega (arith, wrote-room 11 45 (rank .put-field .ensures) (length-field _) (wrote-room 1 56 (letter .put-byte .ensures) (omega arith) (letter .before .before .before .pre .0)))
 
 put-phase-requires : tie.Need-put-phase-requires
 put-phase-requires c κs =
-    let alive = c .before .before .before in
+    let alive = c .before .before .before .before in
     let rank = alive .before .before .before .before .before in
     let letter = rank .before .before .before .before in
-    omega (arith, wrote-room 11 23 (alive .put-field2 .ensures) (length-field _) (wrote-room 11 34 (rank .put-field .ensures) (length-field _) (wrote-room 1 45 (letter .put-byte .ensures) (omega arith) (letter .before .before .before .pre .0))))
+    omega (arith, wrote-room 11 34 (alive .put-field2 .ensures) (length-field _) (wrote-room 11 45 (rank .put-field .ensures) (length-field _) (wrote-room 1 56 (letter .put-byte .ensures) (omega arith) (letter .before .before .before .pre .0))))
 
 same-length : tie.Need-same-length
 same-length c = search needs
@@ -36,7 +36,7 @@ returns : tie.Need-returns
 unfolding rankLine
 returns c =
     let end = c .before .before in
-    let alive = end .before .before .before .before in
+    let alive = end .before .before .before .before .before in
     let rank = alive .before .before .before .before .before in
     let letter = rank .before .before .before .before in
     wrote-then (letter .put-byte .ensures) (wrote-then (rank .put-field .ensures) (wrote-then (field-of (alive .before .living .ensures) (alive .put-field2 .ensures)) (end .put-phase .ensures)))

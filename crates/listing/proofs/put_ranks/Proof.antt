@@ -12,13 +12,13 @@ use Rattle.listing.proofs.put_ranks.Statement.{statement}
 use Rattle.listing.proofs.put_ranks.Tie as tie
 
 abbrev Inv-loop : tie.InvT-loop
-Inv-loop text₀ at n dead ranks next₀ i₀ text next i = Lining (λ j. rankLine dead j (getD ranks j zeroRank)) 46 n text₀ at text next i
+Inv-loop text₀ at n dead ranks next₀ i₀ text next i = Lining (λ j. rankLine dead j (getD ranks j zeroRank)) 57 n text₀ at text next i
 
 abbrev μ-loop : tie.MeasureT-loop
 μ-loop text₀ at n dead ranks next₀ i₀ text next i = n - i
 
 loop-holds : tie.Need-loop-holds Inv-loop μ-loop
-loop-holds c = lining-start _ 46 _ _ _ (λ i. length-rank _ i _) (omega (arith, c .before .pre .0))
+loop-holds c = lining-start _ 57 _ _ _ (λ i. length-rank _ i _) (omega (arith, c .before .pre .0))
 
 cast-r : tie.Need-cast-r Inv-loop μ-loop
 cast-r c = search needs

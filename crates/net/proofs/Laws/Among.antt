@@ -13,6 +13,7 @@ use Rattle.sets.proofs.Laws.Bools.{lt-or-le, eq-or-ne}
 use Rattle.sets.proofs.Laws.Searches.{length-listed, listed-passes, listed-has}
 use Rattle.rank.specs.declared.Send.{Send}
 use Rattle.rank.specs.declared.Message.{Message}
+use Rattle.rank.specs.declared.Triple.{Triple}
 use Rattle.rank.specs.Sends.{letter, letters}
 use Rattle.rank.proofs.Laws.Letters.{letter-is, length-letters, letter-at}
 use Rattle.net.specs.Net.{zeroMessage, without}
@@ -78,12 +79,12 @@ module _ (P : Message → Type 0) where
           inl (among-right (take place l) (drop (suc place) l) (record { place = j .0; inside = omega (arith, length-drop (suc place) l, j .1, m .inside); so = subst P (sym (getD-drop (suc place) l (j .0) zeroMessage ∙ ap (λ (y : ℕ). getD l y zeroMessage) (j .1))) (m .so) }))
 
   -- the messages of a send: one for each rank that it goes to
-  pub letters-among : (me : ℕ) (f : Send) → Among P (letters me f) → (q : ℕ) × (has (f .to) q ≡ true) × P (record { kind = f .kind; from = me; to = q; word = f .word })
+  pub letters-among : (me : ℕ) (f : Send) → Among P (letters me f) → (q : ℕ) × (has (f .to) q ≡ true) × P (record { kind = f .kind; from = me; to = q; triple = f .triple })
   letters-among me f m =
       let b : m .place < length (listed (has (f .to)) 64) = subst (λ (x : ℕ). m .place < x) (length-letters me f ∙ sym (length-listed (has (f .to)) 64)) (m .inside) in
       (getD (listed (has (f .to)) 64) (m .place) 0, listed-passes (has (f .to)) 64 (m .place) 0 b .1, subst P (any-default (letters me f) (m .place) zeroMessage (letter me f 0) (m .inside) ∙ letter-at me f (m .place) ∙ letter-is me f (getD (listed (has (f .to)) 64) (m .place) 0)) (m .so))
 
-  pub among-letters : (me : ℕ) (f : Send) (q : ℕ) → q < 64 → has (f .to) q ≡ true → P (record { kind = f .kind; from = me; to = q; word = f .word }) → Among P (letters me f)
+  pub among-letters : (me : ℕ) (f : Send) (q : ℕ) → q < 64 → has (f .to) q ≡ true → P (record { kind = f .kind; from = me; to = q; triple = f .triple }) → Among P (letters me f)
   among-letters me f q l t h = go (listed-has (has (f .to)) 64 0 q l t)
     where
       go : (i : ℕ) × (i < length (listed (has (f .to)) 64)) × (getD (listed (has (f .to)) 64) i 0 ≡ q) → Among P (letters me f)
@@ -91,9 +92,9 @@ module _ (P : Message → Type 0) where
           let c : i < length (letters me f) = subst (λ (x : ℕ). i < x) (sym (length-letters me f ∙ sym (length-listed (has (f .to)) 64))) b in
           record { place = i; inside = c; so = subst P (sym (any-default (letters me f) i zeroMessage (letter me f 0) c ∙ letter-at me f i ∙ ap (letter me f) e ∙ letter-is me f q)) h }
 
--- a message of this kind from b to x, and one with this word
+-- a message of this kind from b to x, and one with this triple
 abbrev pub Named : ℕ → ℕ → ℕ → Message → Type 0
 Named k b x m = (m .kind ≡ k) × (m .from ≡ b) × (m .to ≡ x)
 
-abbrev pub Worded : ℕ → ℕ → ℕ → ℕ → Message → Type 0
-Worded k b x w m = Named k b x m × (m .word ≡ w)
+abbrev pub Bearing : ℕ → ℕ → ℕ → Triple → Message → Type 0
+Bearing k b x w m = Named k b x m × (m .triple ≡ w)

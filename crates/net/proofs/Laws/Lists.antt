@@ -25,7 +25,7 @@ AllInOrder n dead l = (d : Message) (i : ℕ) → i < length l → MessageInOrde
 
 -- more deaths leave a message in order
 pub message-more : (n dead dead′ : ℕ) (m : Message) → ((k : ℕ) → has dead k ≡ true → has dead′ k ≡ true) → MessageInOrder n dead m → MessageInOrder n dead′ m
-message-more n dead dead′ m h l = record { from-in = l .from-in; to-in = l .to-in; differ = l .differ; kind-low = l .kind-low; kind-high = l .kind-high; ask-empty = l .ask-empty; ask-dead = λ e k b. h k (l .ask-dead e k b) }
+message-more n dead dead′ m h l = record { from-in = l .from-in; to-in = l .to-in; differ = l .differ; kind-low = l .kind-low; kind-high = l .kind-high; triple-in = l .triple-in; ask-empty = l .ask-empty; ask-dead = λ e k b. h k (l .ask-dead e k b) }
 
 pub any-default : (l : List Message) (i : ℕ) (d e : Message) → i < length l → getD l i d ≡ getD l i e
 any-default [] i d e h = absurd (omega arith)
@@ -64,6 +64,7 @@ module _ (n dead : ℕ) where
     differ = λ e. clash (has (s .to) q) t (subst (λ (x : ℕ). has (s .to) x ≡ false) e (p .to-in .without));
     kind-low = p .kind-known q t .0;
     kind-high = p .kind-known q t .1;
+    triple-in = p .triple-in;
     ask-empty = p .ask-empty;
     ask-dead = λ e k b. h k (p .ask-root e k b);
   })

@@ -143,7 +143,7 @@ shifting-end net₀ c place i net v long pad b s l e =
 
 -- the send that is left when only these receivers are
 pub toward : Send → ℕ → Send
-toward s left = record { kind = s .kind; word = s .word; to = left }
+toward s left = record { kind = s .kind; triple = s .triple; to = left }
 
 pub record Posting (net₀ : List Message) (c₀ me : ℕ) (s : Send) (c : ℕ) (net : List Message) (left : ℕ) : Type 0 where
   pub long : length net ≡ 128
@@ -189,7 +189,7 @@ posting-letter net₀ c₀ me s c net left q o left′ p h e eo el w =
 
 -- the same, with the message in fields
 pub posting-step : (net₀ : List Message) (c₀ me : ℕ) (s : Send) (c : ℕ) (net : List Message) (left q o left′ : ℕ) → Posting net₀ c₀ me s c net left → (left ≡ 0 → ⊥) → q ≡ smallest (has left) 64 none
-    → o ≡ only q → left′ ≡ minus left o → left′ < 2 ^ 64 → Posting net₀ c₀ me s (c + 1) (set net c (record { kind = s .kind; from = me; to = q; word = s .word })) left′
+    → o ≡ only q → left′ ≡ minus left o → left′ < 2 ^ 64 → Posting net₀ c₀ me s (c + 1) (set net c (record { kind = s .kind; from = me; to = q; triple = s .triple })) left′
 posting-step net₀ c₀ me s c net left q o left′ p h e eo el w = subst (λ (m : Message). Posting net₀ c₀ me s (c + 1) (set net c m) left′) (letter-is me s q) (posting-letter net₀ c₀ me s c net left q o left′ p h e eo el w)
 
 pub posting-place : (net₀ : List Message) (c₀ me : ℕ) (s : Send) (c : ℕ) (net : List Message) (left q : ℕ) → Posting net₀ c₀ me s c net left → (left ≡ 0 → ⊥) → q ≡ smallest (has left) 64 none → c < 128

@@ -1,49 +1,77 @@
 -- Messages as numbers: what an array of them holds, place by place, and the list's laws read off it. Assumes nothing.
 use mathlib.Core.Path.{_≡_, refl, sym, ap, subst, _∙_}
-use mathlib.Core.List.{List, [], _∷_, map}
+use mathlib.Core.List.{List}
 use mathlib.Core.Logic.{⊎-elim}
 use Prim.Native.Nat.{ℕ, zero, suc, _+_, _*_, _/_, _%_, _^_, _≤_, _<_}
+use native.Mathlib.Nat.{le-dest}
 use native.Mathlib.Omega.{arith}
-use lib.ListN.{length, getD, set, take, replicate, length-map, length-set, List·getD-map, List·getD-eq-default}
+use lib.ListN.{length, getD, set, take, replicate, length-set, length-replicate, List·getD-eq-default}
 use lib.Seq.{length-take-le, take-all, ext-getD, getD-set-same, getD-set-other}
 use Rattle.sets.specs.Sets.{none, has, only, minus, smallest}
 use Rattle.sets.proofs.Laws.Bools.{lt-or-le, eq-or-ne}
-use Rattle.tree.proofs.Laws.Rows.{Patched, patched-start, patched-put, patched-end, row-replicate, row-is}
+use Rattle.tree.specs.Tree.{row}
+use Rattle.tree.proofs.Laws.Rows.{Patched, patched-start, patched-put, patched-end, row-replicate, row-is, row-cong, length-row, getD-row}
 use Rattle.rank.specs.declared.Send.{Send}
 use Rattle.rank.specs.declared.Message.{Message}
 use Rattle.rank.specs.Sends.{size}
 use Rattle.net.specs.Net.{Joined, zeroMessage, padded, without, joining, messageOf, messagesOf, Small}
 use Rattle.net.proofs.Laws.Net.{padded-long, padded-past, Shifting, shifting-start, shifting-step, shifting-end, Posting, posting-start, posting-step, posting-end}
 
-map-set : {A B : Type 0} (f : A → B) (l : List A) (i : ℕ) (v : A) → map f (set l i v) ≡ set (map f l) i (f v)
-map-set f [] i v = refl
-map-set f (x ∷ l) zero v = refl
-map-set {B = B} f (x ∷ l) (suc i) v = ap (λ (t : List B). f x ∷ t) (map-set f l i v)
+-- ---- what three numbers put at a place do to the list
 
-pub messages-long : (x : List ℕ) (m : ℕ) → length x ≡ m → length (messagesOf x) ≡ m
+pub messages-long : (x : List ℕ) → length (messagesOf x) ≡ 128
 unfolding messagesOf
-messages-long x m e = length-map x messageOf ∙ e
+messages-long x = length-row (λ k. messageOf (getD x k 0) (getD x (128 + k) 0) (getD x (256 + k) 0)) 128
 
-pub messages-short : (x : List ℕ) (m : ℕ) → length (messagesOf x) ≡ m → length x ≡ m
+pub messages-at : (x : List ℕ) (i : ℕ) → i < 128 → messageOf (getD x i 0) (getD x (128 + i) 0) (getD x (256 + i) 0) ≡ getD (messagesOf x) i zeroMessage
 unfolding messagesOf
-messages-short x m e = sym (length-map x messageOf) ∙ e
+messages-at x i l = sym (getD-row (λ k. messageOf (getD x k 0) (getD x (128 + k) 0) (getD x (256 + k) 0)) 128 i zeroMessage l)
 
-pub messages-set : (x : List ℕ) (i v : ℕ) (m : Message) → messageOf v ≡ m → messagesOf (set x i v) ≡ set (messagesOf x) i m
-unfolding messagesOf
-messages-set x i v m e = map-set messageOf x i v ∙ ap (set (map messageOf x) i) e
+-- the array with three numbers at a place
+abbrev pub three : List ℕ → ℕ → ℕ → ℕ → ℕ → List ℕ
+three x i a b c = set (set (set x i a) (128 + i) b) (256 + i) c
 
-pub zero-number : messageOf 0 ≡ zeroMessage
-unfolding messageOf
-zero-number = refl
+module _ (x : List ℕ) (i a b c : ℕ) (long : length x ≡ 384) (l : i < 128) where
+  abbrev one : List ℕ
+  one = set x i a
 
-pub messages-at : (x : List ℕ) (i : ℕ) → messageOf (getD x i 0) ≡ getD (messagesOf x) i zeroMessage
-unfolding messagesOf
-messages-at x i = sym (List·getD-map messageOf x i 0) ∙ ap (getD (map messageOf x) i) zero-number
+  abbrev two : List ℕ
+  two = set (set x i a) (128 + i) b
+
+  first-there : getD (three x i a b c) i 0 ≡ a
+  first-there = getD-set-other two (256 + i) i c 0 (λ e. omega arith) ∙ getD-set-other one (128 + i) i b 0 (λ e. omega arith) ∙ getD-set-same x i a 0 (omega arith)
+
+  second-there : getD (three x i a b c) (128 + i) 0 ≡ b
+  second-there = getD-set-other two (256 + i) (128 + i) c 0 (λ e. omega arith) ∙ getD-set-same one (128 + i) b 0 (omega (arith, length-set x i a))
+
+  third-there : getD (three x i a b c) (256 + i) 0 ≡ c
+  third-there = getD-set-same two (256 + i) c 0 (omega (arith, length-set one (128 + i) b, length-set x i a))
+
+  elsewhere : (k : ℕ) → (k ≡ i → ⊥) → (k ≡ 128 + i → ⊥) → (k ≡ 256 + i → ⊥) → getD (three x i a b c) k 0 ≡ getD x k 0
+  elsewhere k e f g = getD-set-other two (256 + i) k c 0 g ∙ getD-set-other one (128 + i) k b 0 f ∙ getD-set-other x i k a 0 e
+
+  pub messages-three : (m : Message) → messageOf a b c ≡ m → messagesOf (three x i a b c) ≡ set (messagesOf x) i m
+  unfolding messagesOf
+  messages-three m e =
+      sym (row-is zeroMessage (λ k. messageOf (getD (three x i a b c) k 0) (getD (three x i a b c) (128 + k) 0) (getD (three x i a b c) (256 + k) 0)) 128 (set (messagesOf x) i m)
+      (length-set (messagesOf x) i m ∙ messages-long x)
+      (λ k h. ⊎-elim (here k) (there k h) (eq-or-ne k i)))
+    where
+      here : (k : ℕ) → k ≡ i → getD (set (messagesOf x) i m) k zeroMessage ≡ messageOf (getD (three x i a b c) k 0) (getD (three x i a b c) (128 + k) 0) (getD (three x i a b c) (256 + k) 0)
+      here k d =
+          let at : getD (set (messagesOf x) i m) i zeroMessage ≡ m = getD-set-same (messagesOf x) i m zeroMessage (omega (arith, messages-long x)) in
+          rw d (rw (at, first-there, second-there, third-there) (sym e))
+
+      there : (k : ℕ) → k < 128 → (k ≡ i → ⊥) → getD (set (messagesOf x) i m) k zeroMessage ≡ messageOf (getD (three x i a b c) k 0) (getD (three x i a b c) (128 + k) 0) (getD (three x i a b c) (256 + k) 0)
+      there k h d =
+          getD-set-other (messagesOf x) i k m zeroMessage d ∙ sym (messages-at x k h)
+          ∙ rw (elsewhere k d (λ z. omega arith) (λ z. omega arith), elsewhere (128 + k) (λ z. omega arith) (λ z. d (omega arith)) (λ z. omega arith), elsewhere (256 + k) (λ z. omega arith) (λ z. omega arith) (λ z. d (omega arith)))
 
 -- a number has the message that it was made of
-pub number-is : (m : Message) (r : ℕ) → m .kind < 256 → m .from < 256 → m .to < 256 → m .word < 4294967296 → r ≡ m .kind + 256 * m .from + 65536 * m .to + 16777216 * m .word → messageOf r ≡ m
+pub number-is : (m : Message) (r : ℕ) → m .kind < 256 → m .from < 256 → m .to < 256 → m .triple .word < 4294967296 → r ≡ m .kind + 256 * m .from + 65536 * m .to + 16777216 * m .triple .word
+    → messageOf r (m .triple .known) (m .triple .acknowledged) ≡ m
 unfolding messageOf
-number-is m r k f t w e = λ i. record { kind = kind-is i; from = from-is i; to = to-is i; word = word-is i }
+number-is m r k f t w e = λ i. record { kind = kind-is i; from = from-is i; to = to-is i; triple = record { word = word-is i; known = m .triple .known; acknowledged = m .triple .acknowledged } }
   where
     kind-is : r % 256 ≡ m .kind
     kind-is = omega arith
@@ -54,7 +82,7 @@ number-is m r k f t w e = λ i. record { kind = kind-is i; from = from-is i; to 
     to-is : r / 65536 % 256 ≡ m .to
     to-is = omega arith
 
-    word-is : r / 16777216 % 4294967296 ≡ m .word
+    word-is : r / 16777216 % 4294967296 ≡ m .triple .word
     word-is = omega arith
 
 -- and it is small
@@ -63,22 +91,39 @@ number-small k f t w r a b c d e = omega arith
 
 -- ---- small numbers
 
-zeros-small : (m i : ℕ) → getD (replicate m 0) i 0 < 2 ^ 56
-zeros-small zero i = omega arith
-zeros-small (suc m) zero = omega arith
-zeros-small (suc m) (suc i) = zeros-small m i
-
-pub small-zeros : (m : ℕ) → Small (replicate m 0)
-small-zeros m = record { bound = zeros-small m }
-
-pub small-set : (x : List ℕ) (i v : ℕ) → Small x → v < 2 ^ 56 → Small (set x i v)
-small-set x i v h l = record { bound = λ k. ⊎-elim (here k) (λ (d : k ≡ i → ⊥). subst (λ (y : ℕ). y < 2 ^ 56) (sym (getD-set-other x i k v 0 d)) (h .bound k)) (eq-or-ne k i) }
+-- a number below a bound is put somewhere, and what stands at k is below it
+below-set : (x : List ℕ) (i v k bound : ℕ) → 0 < bound → v < bound → getD x k 0 < bound → getD (set x i v) k 0 < bound
+below-set x i v k bound z l h = ⊎-elim here (λ (d : k ≡ i → ⊥). subst (λ (y : ℕ). y < bound) (sym (getD-set-other x i k v 0 d)) h) (eq-or-ne k i)
   where
-    here : (k : ℕ) → k ≡ i → getD (set x i v) k 0 < 2 ^ 56
-    here k e = ⊎-elim
-        (λ (b : i < length x). subst (λ (y : ℕ). y < 2 ^ 56) (sym (ap (λ (j : ℕ). getD (set x i v) j 0) e ∙ getD-set-same x i v 0 b)) l)
-        (λ (b : length x ≤ i). subst (λ (y : ℕ). y < 2 ^ 56) (sym (List·getD-eq-default (set x i v) 0 (let c : length (set x i v) ≤ k = omega (arith, length-set x i v) in c))) (omega arith))
+    here : k ≡ i → getD (set x i v) k 0 < bound
+    here e = ⊎-elim
+        (λ (b : i < length x). subst (λ (y : ℕ). y < bound) (sym (ap (λ (j : ℕ). getD (set x i v) j 0) e ∙ getD-set-same x i v 0 b)) l)
+        (λ (b : length x ≤ i). subst (λ (y : ℕ). y < bound) (sym (List·getD-eq-default (set x i v) 0 (let c : length (set x i v) ≤ k = omega (arith, length-set x i v) in c))) z)
         (lt-or-le i (length x))
+
+zeros-at : (m i : ℕ) → _≡_ {A = ℕ} (getD (replicate m 0) i 0) 0
+zeros-at zero i = refl
+zeros-at (suc m) zero = refl
+zeros-at (suc m) (suc i) = zeros-at m i
+
+pub small-zeros : Small (replicate 384 0)
+small-zeros = record { long = length-replicate {A = ℕ} 384 0; first = λ i l. omega (arith, zeros-at 384 i); bound = λ i. omega (arith, zeros-at 384 i) }
+
+pub small-three : (x : List ℕ) (i a b c : ℕ) → i < 128 → Small x → a < 2 ^ 56 → b < 2 ^ 64 → c < 2 ^ 64 → Small (three x i a b c)
+small-three x i a b c l h la lb lc = record {
+  long = length-set (set (set x i a) (128 + i) b) (256 + i) c ∙ length-set (set x i a) (128 + i) b ∙ length-set x i a ∙ h .long;
+  first = λ k d. subst (λ (y : ℕ). y < 2 ^ 56) (sym (getD-set-other (set (set x i a) (128 + i) b) (256 + i) k c 0 (λ e. omega arith) ∙ getD-set-other (set x i a) (128 + i) k b 0 (λ e. omega arith))) (below-set x i a k (2 ^ 56) (omega arith) la (h .first k d));
+  bound = λ k. below-set (set (set x i a) (128 + i) b) (256 + i) c k (2 ^ 64) (omega arith) lc (below-set (set x i a) (128 + i) b k (2 ^ 64) (omega arith) lb (below-set x i a k (2 ^ 64) (omega arith) (omega arith) (h .bound k)));
+}
+
+-- ---- along the code of `put` and `pull`
+
+pub put-three : (x : List ℕ) (i a b c : ℕ) (m : Message) → i < 128 → Small x → a < 2 ^ 56 → b < 2 ^ 64 → c < 2 ^ 64 → messageOf a b c ≡ m → Small (three x i a b c) × (messagesOf (three x i a b c) ≡ set (messagesOf x) i m)
+put-three x i a b c m l h la lb lc e = (small-three x i a b c l h la lb lc, messages-three x i a b c (h .long) l m e)
+
+pub pull-three : (x : List ℕ) (i : ℕ) → i + 1 < 128 → Small x → Small (three x i (getD x (i + 1) 0) (getD x (128 + (i + 1)) 0) (getD x (256 + (i + 1)) 0))
+    × (messagesOf (three x i (getD x (i + 1) 0) (getD x (128 + (i + 1)) 0) (getD x (256 + (i + 1)) 0)) ≡ set (messagesOf x) i (getD (messagesOf x) (i + 1) zeroMessage))
+pull-three x i l h = put-three x i (getD x (i + 1) 0) (getD x (128 + (i + 1)) 0) (getD x (256 + (i + 1)) 0) (getD (messagesOf x) (i + 1) zeroMessage) (omega arith) h (h .first (i + 1) l) (h .bound (128 + (i + 1))) (h .bound (256 + (i + 1))) (messages-at x (i + 1) l)
 
 -- small numbers with the same messages are the same
 spread : (a : ℕ) → a < 2 ^ 56 → a ≡ a % 256 + 256 * (a / 256 % 256) + 65536 * (a / 65536 % 256) + 16777216 * (a / 16777216 % 4294967296)
@@ -91,14 +136,25 @@ spread a l =
     let j : a ≡ a % 256 + 256 * (a / 256) = omega arith in
     omega arith
 
-same-number : (a b : ℕ) → a < 2 ^ 56 → b < 2 ^ 56 → messageOf a ≡ messageOf b → a ≡ b
+same-number : (a b k l m n : ℕ) → a < 2 ^ 56 → b < 2 ^ 56 → messageOf a k l ≡ messageOf b m n → (a ≡ b) × (k ≡ m) × (l ≡ n)
 unfolding messageOf
-same-number a b la lb e = spread a la ∙ ap (λ (m : Message). m .kind + 256 * m .from + 65536 * m .to + 16777216 * m .word) e ∙ sym (spread b lb)
+same-number a b k l m n la lb e = (
+  spread a la ∙ ap (λ (t : Message). t .kind + 256 * t .from + 65536 * t .to + 16777216 * t .triple .word) e ∙ sym (spread b lb),
+  ap (λ (t : Message). t .triple .known) e,
+  ap (λ (t : Message). t .triple .acknowledged) e,
+)
 
 pub same-numbers : (x y : List ℕ) → Small x → Small y → messagesOf x ≡ messagesOf y → x ≡ y
-same-numbers x y h k e =
-    ext-getD 0 x y (messages-short x (length y) (ap length e ∙ messages-long y (length y) refl))
-    (λ i l. same-number (getD x i 0) (getD y i 0) (h .bound i) (k .bound i) (messages-at x i ∙ ap (λ (t : List Message). getD t i zeroMessage) e ∙ sym (messages-at y i)))
+same-numbers x y h k e = ext-getD 0 x y (h .long ∙ sym (k .long)) (λ i l. ⊎-elim (λ (b : i < 128). alike i b .0) (λ (b : 128 ≤ i). ⊎-elim (λ (c : i < 256). second i b c) (λ (c : 256 ≤ i). third i c (let lx : length x ≡ 384 = h .long in omega arith)) (lt-or-le i 256)) (lt-or-le i 128))
+  where
+    alike : (i : ℕ) → i < 128 → (getD x i 0 ≡ getD y i 0) × (getD x (128 + i) 0 ≡ getD y (128 + i) 0) × (getD x (256 + i) 0 ≡ getD y (256 + i) 0)
+    alike i l = same-number (getD x i 0) (getD y i 0) (getD x (128 + i) 0) (getD x (256 + i) 0) (getD y (128 + i) 0) (getD y (256 + i) 0) (h .first i l) (k .first i l) (messages-at x i l ∙ ap (λ (t : List Message). getD t i zeroMessage) e ∙ sym (messages-at y i l))
+
+    second : (i : ℕ) → 128 ≤ i → i < 256 → getD x i 0 ≡ getD y i 0
+    second i b c = let d = le-dest b in subst (λ (j : ℕ). getD x j 0 ≡ getD y j 0) (d .1) (alike (d .0) (omega (arith, d .1)) .1)
+
+    third : (i : ℕ) → 256 ≤ i → i < 384 → getD x i 0 ≡ getD y i 0
+    third i b c = let d = le-dest b in subst (λ (j : ℕ). getD x j 0 ≡ getD y j 0) (d .1) (alike (d .0) (omega (arith, d .1)) .2)
 
 -- ---- a list copied place by place: the first i places are filled, the others still zero
 
@@ -120,17 +176,16 @@ copying-end l c i found h b d long pad =
     past : (k : ℕ) → c ≤ k → getD l k zeroMessage ≡ zeroMessage
     past k x = ap (λ (t : List Message). getD t k zeroMessage) pad ∙ padded-past (take c l) k (omega (arith, length-take-le c l (omega arith)))
 
--- the same into numbers
-map-replicate : {A B : Type 0} (f : A → B) (n : ℕ) (x : A) → map f (replicate n x) ≡ replicate n (f x)
-map-replicate f zero x = refl
-map-replicate {B = B} f (suc n) x = ap (λ (t : List B). f x ∷ t) (map-replicate f n x)
+-- the same into numbers: what is put is a message
+pub numbering-start : (l : List Message) (c : ℕ) → Copying l c 0 (messagesOf (replicate 384 0))
+unfolding messagesOf messageOf
+numbering-start l c = subst (Copying l c 0) (zeros 128) (copying-start l c zeroMessage refl)
+  where
+    zeros : (m : ℕ) → replicate m zeroMessage ≡ row (λ i. messageOf (getD (replicate 384 0) i 0) (getD (replicate 384 0) (128 + i) 0) (getD (replicate 384 0) (256 + i) 0)) m
+    zeros m = row-replicate m zeroMessage zeroMessage ∙ row-cong zeroMessage (λ k. zeroMessage) (λ i. messageOf (getD (replicate 384 0) i 0) (getD (replicate 384 0) (128 + i) 0) (getD (replicate 384 0) (256 + i) 0)) m (λ k l. rw (zeros-at 384 k, zeros-at 384 (128 + k), zeros-at 384 (256 + k)))
 
-pub numbering-start : (l : List Message) (c : ℕ) → Copying l c 0 (messagesOf (replicate 128 0))
-unfolding messagesOf
-numbering-start l c = subst (Copying l c 0) (sym (map-replicate messageOf 128 0)) (copying-start l c (messageOf 0) zero-number)
-
-pub numbering-put : (l : List Message) (c i : ℕ) (found : List ℕ) (x : ℕ) (m : Message) → Copying l c i (messagesOf found) → i < c → c ≤ 128 → m ≡ getD l i zeroMessage → messageOf x ≡ m → Copying l c (i + 1) (messagesOf (set found i x))
-numbering-put l c i found x m h b d e f = subst (Copying l c (i + 1)) (sym (messages-set found i x m f)) (copying-put l c i (messagesOf found) m h b d e)
+pub numbering-put : (l : List Message) (c i : ℕ) (found next : List Message) (m : Message) → Copying l c i found → i < c → c ≤ 128 → m ≡ getD l i zeroMessage → next ≡ set found i m → Copying l c (i + 1) next
+numbering-put l c i found next m h b d e f = subst (Copying l c (i + 1)) (sym f) (copying-put l c i found m h b d e)
 
 -- a list in its places has 128 of them
 pub held-long : (l : List Message) (c : ℕ) → c ≤ 128 → l ≡ padded (take c l) → length l ≡ 128
@@ -141,32 +196,31 @@ held-long l c b e = ap length e ∙ padded-long (take c l) (⊎-elim (λ (h : le
 
 -- ---- one message taken out
 
-pub shifting-begin : (net : List ℕ) (c place : ℕ) → messagesOf net ≡ padded (take c (messagesOf net)) → c ≤ 128 → place < c → Shifting (messagesOf net) c place place (messagesOf net)
-shifting-begin net c place e b l = shifting-start (messagesOf net) c place (held-long (messagesOf net) c b e) l
+pub shifting-begin : (l : List Message) (c place : ℕ) → l ≡ padded (take c l) → c ≤ 128 → place < c → Shifting l c place place l
+shifting-begin l c place e b h = shifting-start l c place (held-long l c b e) h
 
-pub shifting-on : (net₀ : List ℕ) (c place i : ℕ) (net : List ℕ) (v : ℕ) → c ≤ 128 → Shifting (messagesOf net₀) c place i (messagesOf net) → i + 1 < c → v ≡ getD net (i + 1) 0 → Shifting (messagesOf net₀) c place (i + 1) (messagesOf (set net i v))
-shifting-on net₀ c place i net v b s l e =
-    subst (Shifting (messagesOf net₀) c place (i + 1)) (sym (messages-set net i v (messageOf v) refl))
-    (shifting-step (messagesOf net₀) c place i (messagesOf net) (messageOf v) b s l (ap messageOf e ∙ messages-at net (i + 1)))
+pub shifting-on : (l : List Message) (c place i : ℕ) (net next : List Message) → c ≤ 128 → Shifting l c place i net → i + 1 < c → next ≡ set net i (getD net (i + 1) zeroMessage) → Shifting l c place (i + 1) next
+shifting-on l c place i net next b s h e = subst (Shifting l c place (i + 1)) (sym e) (shifting-step l c place i net (getD net (i + 1) zeroMessage) b s h refl)
 
-pub shifting-done : (net₀ : List ℕ) (c place i : ℕ) (net : List ℕ) → messagesOf net₀ ≡ padded (take c (messagesOf net₀)) → c ≤ 128 → Shifting (messagesOf net₀) c place i (messagesOf net) → c ≤ i + 1
-    → messagesOf (set net i 0) ≡ padded (without place (take c (messagesOf net₀)))
-shifting-done net₀ c place i net pad b s l = messages-set net i 0 zeroMessage zero-number ∙ shifting-end (messagesOf net₀) c place i (messagesOf net) zeroMessage (held-long (messagesOf net₀) c b pad) pad b s l refl
+pub shifting-done : (l : List Message) (c place i : ℕ) (net next : List Message) (m : Message) → l ≡ padded (take c l) → c ≤ 128 → Shifting l c place i net → c ≤ i + 1 → m ≡ zeroMessage → next ≡ set net i m
+    → next ≡ padded (without place (take c l))
+shifting-done l c place i net next m pad b s h z e = e ∙ shifting-end l c place i net m (held-long l c b pad) pad b s h z
+
+pub shifting-place : (l : List Message) (c place i : ℕ) (net : List Message) → c ≤ 128 → Shifting l c place i net → i < 128
+shifting-place l c place i net b s = omega (arith, s .high)
 
 -- ---- the messages of a send written at the end
 
-pub posting-begin : (net : List ℕ) (c me : ℕ) (s : Send) → messagesOf net ≡ padded (take c (messagesOf net)) → c + size s ≤ 128 → s .to < 2 ^ 64 → Posting (messagesOf net) c me s c (messagesOf net) (s .to)
-posting-begin net c me s p r w = posting-start (messagesOf net) c me s (held-long (messagesOf net) c (omega arith) p) p r w
+pub posting-begin : (l : List Message) (c me : ℕ) (s : Send) → l ≡ padded (take c l) → c + size s ≤ 128 → s .to < 2 ^ 64 → Posting l c me s c l (s .to)
+posting-begin l c me s p r w = posting-start l c me s (held-long l c (omega arith) p) p r w
 
-pub posting-on : (net₀ : List ℕ) (c₀ me : ℕ) (s : Send) (c : ℕ) (net : List ℕ) (left q o left′ x : ℕ) → Posting (messagesOf net₀) c₀ me s c (messagesOf net) left → (left ≡ 0 → ⊥) → q ≡ smallest (has left) 64 none
-    → messageOf x ≡ record { kind = s .kind; from = me; to = q; word = s .word } → o ≡ only q → left′ ≡ minus left o → left′ < 2 ^ 64 → Posting (messagesOf net₀) c₀ me s (c + 1) (messagesOf (set net c x)) left′
-posting-on net₀ c₀ me s c net left q o left′ x p h e ex eo el w =
-    let m : Message = record { kind = s .kind; from = me; to = q; word = s .word } in
-    subst (λ (t : List Message). Posting (messagesOf net₀) c₀ me s (c + 1) t left′) (sym (messages-set net c x m ex))
-    (posting-step (messagesOf net₀) c₀ me s c (messagesOf net) left q o left′ p h e eo el w)
+pub posting-on : (l : List Message) (c₀ me : ℕ) (s : Send) (c : ℕ) (net next : List Message) (left q o left′ : ℕ) → Posting l c₀ me s c net left → (left ≡ 0 → ⊥) → q ≡ smallest (has left) 64 none
+    → next ≡ set net c (record { kind = s .kind; from = me; to = q; triple = s .triple }) → o ≡ only q → left′ ≡ minus left o → left′ < 2 ^ 64 → Posting l c₀ me s (c + 1) next left′
+posting-on l c₀ me s c net next left q o left′ p h e en eo el w =
+    subst (λ (t : List Message). Posting l c₀ me s (c + 1) t left′) (sym en) (posting-step l c₀ me s c net left q o left′ p h e eo el w)
 
-pub posting-done : (net₀ : List ℕ) (c₀ me : ℕ) (s : Send) (c : ℕ) (net : List ℕ) (left : ℕ) → Posting (messagesOf net₀) c₀ me s c (messagesOf net) left → left ≡ 0
-    → (c ≡ joining (take c₀ (messagesOf net₀)) me s .count) × (messagesOf net ≡ joining (take c₀ (messagesOf net₀)) me s .net)
-posting-done net₀ c₀ me s c net left p e =
-    let j = posting-end (messagesOf net₀) c₀ me s c (messagesOf net) left p e in
+pub posting-done : (l : List Message) (c₀ me : ℕ) (s : Send) (c : ℕ) (net : List Message) (left : ℕ) → Posting l c₀ me s c net left → left ≡ 0
+    → (c ≡ joining (take c₀ l) me s .count) × (net ≡ joining (take c₀ l) me s .net)
+posting-done l c₀ me s c net left p e =
+    let j = posting-end l c₀ me s c net left p e in
     (ap (λ (x : Joined). x .count) j, ap (λ (x : Joined). x .net) j)

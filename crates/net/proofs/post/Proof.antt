@@ -6,7 +6,7 @@ use Rattle.sets.specs.Sets.{has}
 use Rattle.sets.proofs.Laws.Searches.{first-member, first-less}
 use Rattle.net.specs.Net.{messagesOf, Small}
 use Rattle.net.proofs.Laws.Net.{Posting, posting-place}
-use Rattle.net.proofs.Laws.Numbers.{posting-begin, posting-on, posting-done, small-set}
+use Rattle.net.proofs.Laws.Numbers.{posting-begin, posting-on, posting-done}
 use Rattle.net.proofs.post.Statement.{statement}
 use Rattle.net.proofs.post.Tie as tie
 
@@ -22,23 +22,18 @@ loop-holds c = (search (posting-begin, needs), c .pre .1 .1)
 smallest-requires : tie.Need-smallest-requires Inv-loop μ-loop
 smallest-requires c κs = search needs
 
-number-of-requires : tie.Need-number-of-requires Inv-loop μ-loop
-number-of-requires c κs = search needs
-
-cast-net : tie.Need-cast-net Inv-loop μ-loop
-cast-net c = search needs
-
-mul-net : tie.Need-mul-net Inv-loop μ-loop
-mul-net c = search needs
-
-element-write-net : tie.Need-element-write-net Inv-loop μ-loop
-element-write-net c = search posting-place
+put-requires : tie.Need-put-requires Inv-loop μ-loop
+put-requires c κs =
+    let turn = c .before .before .before in
+    (posting-place _ _ _ _ _ _ _ _ (turn .before .loop .inv .0) (turn .loop-test .taken) (c .before .before .smallest .ensures), turn .before .loop .inv .1)
 
 add-count : tie.Need-add-count Inv-loop μ-loop
 add-count c = search needs
 
 only-requires : tie.Need-only-requires Inv-loop μ-loop
-only-requires c κs = first-member _ _ _ _ (c .before .before .before .loop .inv .0 .word) (c .before .before .loop-test .taken) (c .before .smallest .ensures) .within
+only-requires c κs =
+    let chosen = c .before .before .before in
+    first-member _ _ _ _ (chosen .before .before .loop .inv .0 .word) (chosen .before .loop-test .taken) (chosen .smallest .ensures) .within
 
 minus-requires : tie.Need-minus-requires Inv-loop μ-loop
 minus-requires c κs = search needs
@@ -48,9 +43,10 @@ loop-less c = search first-less
 
 loop-again : tie.Need-loop-again Inv-loop μ-loop
 loop-again c =
-    let numbered = c .before .before in
-    let turn = numbered .before .before in
-    (posting-on _ _ _ _ _ _ _ _ _ _ _ (turn .before .loop .inv .0) (turn .loop-test .taken) (numbered .before .smallest .ensures) (numbered .number-of .ensures .0) (c .before .only .ensures) (c .minus .ensures) (omega (arith, c .minus .ok)), small-set _ _ _ (turn .before .loop .inv .1) (numbered .number-of .ensures .1))
+    let posted = c .before .before in
+    let chosen = posted .before .before .before in
+    let turn = chosen .before in
+    (posting-on _ _ _ _ _ _ _ _ _ _ _ (turn .before .loop .inv .0) (turn .loop-test .taken) (chosen .smallest .ensures) (posted .put .ensures .1) (c .before .only .ensures) (c .minus .ensures) (omega (arith, c .minus .ok)), posted .put .ensures .0)
 
 returns : tie.Need-returns Inv-loop μ-loop
 returns c =
@@ -65,10 +61,7 @@ post-spec =
     μ-loop
     loop-holds
     smallest-requires
-    number-of-requires
-    cast-net
-    mul-net
-    element-write-net
+    put-requires
     add-count
     only-requires
     minus-requires

@@ -2,9 +2,10 @@
 -- Assumes nothing.
 use borrow.Author.Needs.{needs}
 use Prim.Native.Nat.{_-_}
+use native.Mathlib.Omega.{arith}
 use Rattle.net.specs.Net.{messagesOf, Small}
 use Rattle.net.proofs.Laws.Net.{Shifting}
-use Rattle.net.proofs.Laws.Numbers.{shifting-begin, shifting-on, shifting-done, small-set}
+use Rattle.net.proofs.Laws.Numbers.{shifting-begin, shifting-on, shifting-done, shifting-place}
 use Rattle.net.proofs.take_out.Statement.{statement}
 use Rattle.net.proofs.take_out.Tie as tie
 
@@ -20,26 +21,8 @@ loop-holds c = (search (shifting-begin, needs), c .pre .1 .1 .1)
 add-loop : tie.Need-add-loop Inv-loop μ-loop
 add-loop c = search needs
 
-add-net : tie.Need-add-net Inv-loop μ-loop
-add-net c = search needs
-
-cast-net : tie.Need-cast-net Inv-loop μ-loop
-cast-net c = search needs
-
-mul-net : tie.Need-mul-net Inv-loop μ-loop
-mul-net c = search needs
-
-element-copy-out-net : tie.Need-element-copy-out-net Inv-loop μ-loop
-element-copy-out-net c = search needs
-
-cast-net-2 : tie.Need-cast-net-2 Inv-loop μ-loop
-cast-net-2 c = search needs
-
-mul-net-2 : tie.Need-mul-net-2 Inv-loop μ-loop
-mul-net-2 c = search needs
-
-element-write-net : tie.Need-element-write-net Inv-loop μ-loop
-element-write-net c = search needs
+pull-requires : tie.Need-pull-requires Inv-loop μ-loop
+pull-requires c κs = (omega arith, c .before .before .loop .inv .1)
 
 add-i : tie.Need-add-i Inv-loop μ-loop
 add-i c = search needs
@@ -48,19 +31,16 @@ loop-less : tie.Need-loop-less Inv-loop μ-loop
 loop-less c = search needs
 
 loop-again : tie.Need-loop-again Inv-loop μ-loop
-loop-again c = (search (shifting-on, needs), small-set _ _ _ (c .before .before .loop .inv .1) (c .before .before .loop .inv .1 .bound _))
+loop-again c = (shifting-on _ _ _ _ _ _ (search needs) (c .before .before .before .loop .inv .0) (search needs) (c .pull .ensures .1), c .pull .ensures .0)
 
-cast-net-3 : tie.Need-cast-net-3 Inv-loop μ-loop
-cast-net-3 c = search needs
+nothing-requires : tie.Need-nothing-requires Inv-loop μ-loop
+nothing-requires c κs = search needs
 
-mul-net-3 : tie.Need-mul-net-3 Inv-loop μ-loop
-mul-net-3 c = search needs
-
-element-write-net-2 : tie.Need-element-write-net-2 Inv-loop μ-loop
-element-write-net-2 c = search needs
+put-requires : tie.Need-put-requires Inv-loop μ-loop
+put-requires c κs = (shifting-place _ _ _ _ _ (search needs) (c .before .before .before .loop .inv .0), c .before .before .before .loop .inv .1)
 
 returns : tie.Need-returns Inv-loop μ-loop
-returns c = (small-set _ _ 0 (c .before .loop .inv .1) (search needs), search (shifting-done, needs))
+returns c = (c .put .ensures .0, shifting-done _ _ _ _ _ _ _ (search needs) (search needs) (c .before .before .before .before .loop .inv .0) (search needs) (c .before .nothing .ensures) (c .put .ensures .1))
 
 pub take-out-spec : {M : Type 1} → statement M
 take-out-spec =
@@ -70,17 +50,10 @@ take-out-spec =
     μ-loop
     loop-holds
     add-loop
-    add-net
-    cast-net
-    mul-net
-    element-copy-out-net
-    cast-net-2
-    mul-net-2
-    element-write-net
+    pull-requires
     add-i
     loop-less
     loop-again
-    cast-net-3
-    mul-net-3
-    element-write-net-2
+    nothing-requires
+    put-requires
     returns)

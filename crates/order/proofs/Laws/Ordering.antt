@@ -19,6 +19,7 @@ use Rattle.tree.proofs.Laws.Rows.{same-eq, same-refl}
 use Rattle.tree.proofs.Laws.Calls.{size-le, size-pos, size-right}
 use Rattle.rank.specs.declared.Rank.{Rank}
 use Rattle.rank.specs.declared.Message.{Message}
+use Rattle.rank.specs.declared.Triple.{Triple}
 use Rattle.rank.specs.Words.{up, ask}
 use Rattle.rank.proofs.Facts.{MemberInOrder}
 use Rattle.net.specs.Net.{inFlight, zeroMessage, padded}
@@ -26,26 +27,10 @@ use Rattle.net.proofs.Facts.{MessageInOrder}
 use Rattle.net.proofs.Laws.Net.{padded-long, padded-in, padded-past}
 use Rattle.state.specs.declared.State.{State}
 use Rattle.state.specs.States.{zeroRank, rankAt, rowAt, placeAt}
-use Rattle.order.proofs.Laws.Ranks.{rank-in-order-facts, facts-rank-in-order}
-use Rattle.order.specs.Order.{rankInOrder, isWithin, memberInOrder, zeroRecord, strangerInOrder, seatInOrder, seatInOrderAt, messageInOrder, zeroPlace, placeInOrder, placeInOrderAt, inOrder}
+use Rattle.order.proofs.Laws.Ranks.{within-o, within-i, below-o, below-i, triple-o, triple-i, zero-o, zero-i, rank-in-order-facts, facts-rank-in-order}
+use Rattle.order.specs.Order.{rankInOrder, isWithin, tripleWithin, isZero, memberInOrder, zeroRecord, strangerInOrder, seatInOrder, seatInOrderAt, messageInOrder, zeroPlace, placeInOrder, placeInOrderAt, inOrder}
 use Rattle.order.specs.Between.{Shaped, InOrder}
 use Rattle.order.proofs.Facts.{InOrderFacts}
-
--- ---- sets
-
-within-o : (w b : ℕ) → isWithin w b ≡ true → (k : ℕ) → has w k ≡ true → has b k ≡ true
-unfolding isWithin
-within-o w b t k h = minus-not w b k (ap (λ (x : ℕ). has x k) (eqb-true (minus w b) 0 t) ∙ has-zero k) h
-
-within-i : (w b : ℕ) → ((k : ℕ) → has w k ≡ true → has b k ≡ true) → isWithin w b ≡ true
-unfolding isWithin
-within-i w b h = eq-eqb (minus w b) 0 (none-in (minus w b) (λ k t. clash (has b k) (h k (minus-l w b k t)) (minus-r w b k t)))
-
-below-o : (w n k : ℕ) → isWithin w (below n) ≡ true → has w k ≡ true → k < n
-below-o w n k t h = ltb-true k n (sym (has-below n k) ∙ within-o w (below n) t k h)
-
-below-i : (w n : ℕ) → ((k : ℕ) → has w k ≡ true → k < n) → isWithin w (below n) ≡ true
-below-i w n h = within-i w (below n) (λ k t. has-below-lt n k (h k t))
 
 -- ---- one rank, one record past the group
 
@@ -69,18 +54,20 @@ zero-record-o r t =
     let t4 = all-tail _ _ t3 in
     let t5 = all-tail _ _ t4 in
     let t6 = all-tail _ _ t5 in
+    let t7 = all-tail _ _ t6 in
     λ i. record {
       phase = eqb-true (r .phase) 0 (all-head _ _ t) i;
       marks = eqb-true (r .marks) 0 (all-head _ _ t1) i;
-      heard = eqb-true (r .heard) 0 (all-head _ _ t2) i;
-      awaited = eqb-true (r .awaited) 0 (all-head _ _ t3) i;
-      owed = eqb-true (r .owed) 0 (all-head _ _ t4) i;
-      word = eqb-true (r .word) 0 (all-head _ _ t5) i;
-      result = eqb-true (r .result) 0 (all-head _ _ t6) i;
+      acknowledged = eqb-true (r .acknowledged) 0 (all-head _ _ t2) i;
+      heard = eqb-true (r .heard) 0 (all-head _ _ t3) i;
+      awaited = eqb-true (r .awaited) 0 (all-head _ _ t4) i;
+      owed = eqb-true (r .owed) 0 (all-head _ _ t5) i;
+      triple = zero-o (r .triple) (all-head _ _ t6) i;
+      result = zero-o (r .result) (all-head _ _ t7) i;
     }
 
 zero-record-i : (r : Rank) → r ≡ zeroRank → zeroRecord r ≡ true
-unfolding zeroRecord
+unfolding zeroRecord isZero
 zero-record-i r e = rw e (simp (all-step, all-nil))
 
 stranger-o : (r : Rank) (row : List ℕ) → strangerInOrder r row ≡ true → (r ≡ zeroRank) × (row ≡ replicate 64 none)
@@ -102,14 +89,16 @@ message-o n dead m t =
     let t4 = all-tail _ _ t3 in
     let t5 = all-tail _ _ t4 in
     let t6 = all-tail _ _ t5 in
+    let t7 = all-tail _ _ t6 in
     record {
       from-in = ltb-true (m .from) n (all-head _ _ t);
       to-in = ltb-true (m .to) n (all-head _ _ t1);
       differ = eqb-false (m .from) (m .to) (not-true (eqb (m .from) (m .to)) (all-head _ _ t2));
       kind-low = leb-true up (m .kind) (all-head _ _ t3);
       kind-high = leb-true (m .kind) ask (all-head _ _ t4);
-      ask-empty = λ e. eqb-true (m .word) 0 (means (eqb (m .kind) ask) (eqb (m .word) 0) (all-head _ _ t5) (eq-eqb (m .kind) ask e));
-      ask-dead = λ e k l. within-o (below (m .from)) dead (means (eqb (m .kind) ask) (isWithin (below (m .from)) dead) (all-head _ _ t6) (eq-eqb (m .kind) ask e)) k (has-below-lt (m .from) k l);
+      triple-in = triple-o n (m .triple) (all-head _ _ t5);
+      ask-empty = λ e. zero-o (m .triple) (means (eqb (m .kind) ask) (isZero (m .triple)) (all-head _ _ t6) (eq-eqb (m .kind) ask e));
+      ask-dead = λ e k l. within-o (below (m .from)) dead (means (eqb (m .kind) ask) (isWithin (below (m .from)) dead) (all-head _ _ t7) (eq-eqb (m .kind) ask e)) k (has-below-lt (m .from) k l);
     }
 
 message-i : (n dead : ℕ) (m : Message) → MessageInOrder n dead m → messageInOrder n dead m ≡ true
@@ -120,8 +109,9 @@ message-i n dead m l =
     (all-cons _ _ (not-i (eqb (m .from) (m .to)) (ne-eqb (m .from) (m .to) (l .differ)))
     (all-cons _ _ (le-leb up (m .kind) (l .kind-low))
     (all-cons _ _ (le-leb (m .kind) ask (l .kind-high))
-    (all-cons _ _ (meant (eqb (m .kind) ask) (eqb (m .word) 0) (λ e. eq-eqb (m .word) 0 (l .ask-empty (eqb-true (m .kind) ask e))))
-    (all-cons _ _ (meant (eqb (m .kind) ask) (isWithin (below (m .from)) dead) (λ e. within-i (below (m .from)) dead (λ k t. l .ask-dead (eqb-true (m .kind) ask e) k (below-o (below (m .from)) (m .from) k (within-i (below (m .from)) (below (m .from)) (λ j u. u)) t)))) all-nil))))))
+    (all-cons _ _ (triple-i n (m .triple) (l .triple-in))
+    (all-cons _ _ (meant (eqb (m .kind) ask) (isZero (m .triple)) (λ e. zero-i (m .triple) (l .ask-empty (eqb-true (m .kind) ask e))))
+    (all-cons _ _ (meant (eqb (m .kind) ask) (isWithin (below (m .from)) dead) (λ e. within-i (below (m .from)) dead (λ k t. l .ask-dead (eqb-true (m .kind) ask e) k (below-o (below (m .from)) (m .from) k (within-i (below (m .from)) (below (m .from)) (λ j u. u)) t)))) all-nil)))))))
 
 vacant-o : (m : Message) → zeroPlace m ≡ true → m ≡ zeroMessage
 unfolding zeroPlace
@@ -129,10 +119,10 @@ vacant-o m t =
     let t1 = all-tail _ _ t in
     let t2 = all-tail _ _ t1 in
     let t3 = all-tail _ _ t2 in
-    λ i. record { kind = eqb-true (m .kind) 0 (all-head _ _ t) i; from = eqb-true (m .from) 0 (all-head _ _ t1) i; to = eqb-true (m .to) 0 (all-head _ _ t2) i; word = eqb-true (m .word) 0 (all-head _ _ t3) i }
+    λ i. record { kind = eqb-true (m .kind) 0 (all-head _ _ t) i; from = eqb-true (m .from) 0 (all-head _ _ t1) i; to = eqb-true (m .to) 0 (all-head _ _ t2) i; triple = zero-o (m .triple) (all-head _ _ t3) i }
 
 vacant-i : (m : Message) → m ≡ zeroMessage → zeroPlace m ≡ true
-unfolding zeroPlace
+unfolding zeroPlace isZero
 vacant-i m e = rw e (simp (all-step, all-nil))
 
 -- ---- the whole state
@@ -222,32 +212,40 @@ places-held anc s f =
 
 -- ---- the tests along their code
 
+three : (a b c : Bool) → a && b && c ≡ all (a ∷ b ∷ c ∷ [])
+three a b c = simp (all-step, all-nil, and-assoc, and-true)
+
 four : (a b c d : Bool) → a && b && c && d ≡ all (a ∷ b ∷ c ∷ d ∷ [])
 four a b c d = simp (all-step, all-nil, and-assoc, and-true)
 
-seven : (a b c d e f g : Bool) → a && b && c && d && e && f && g ≡ all (a ∷ b ∷ c ∷ d ∷ e ∷ f ∷ g ∷ [])
-seven a b c d e f g = simp (all-step, all-nil, and-assoc, and-true)
+eight : (a b c d e f g h : Bool) → a && b && c && d && e && f && g && h ≡ all (a ∷ b ∷ c ∷ d ∷ e ∷ f ∷ g ∷ h ∷ [])
+eight a b c d e f g h = simp (all-step, all-nil, and-assoc, and-true)
 
-pub zero-record-test : (r : Rank) → eqb (r .phase) 0 && eqb (r .marks) 0 && eqb (r .heard) 0 && eqb (r .awaited) 0 && eqb (r .owed) 0 && eqb (r .word) 0 && eqb (r .result) 0 ≡ zeroRecord r
+pub zero-triple-test : (t : Triple) → eqb (t .word) 0 && eqb (t .known) 0 && eqb (t .acknowledged) 0 ≡ isZero t
+unfolding isZero
+zero-triple-test t = three (eqb (t .word) 0) (eqb (t .known) 0) (eqb (t .acknowledged) 0)
+
+pub zero-record-test : (r : Rank) (t u : Bool) → t ≡ isZero (r .triple) → u ≡ isZero (r .result)
+    → eqb (r .phase) 0 && eqb (r .marks) 0 && eqb (r .acknowledged) 0 && eqb (r .heard) 0 && eqb (r .awaited) 0 && eqb (r .owed) 0 && t && u ≡ zeroRecord r
 unfolding zeroRecord
-zero-record-test r = seven (eqb (r .phase) 0) (eqb (r .marks) 0) (eqb (r .heard) 0) (eqb (r .awaited) 0) (eqb (r .owed) 0) (eqb (r .word) 0) (eqb (r .result) 0)
+zero-record-test r t u e f = rw (e, f) (eight (eqb (r .phase) 0) (eqb (r .marks) 0) (eqb (r .acknowledged) 0) (eqb (r .heard) 0) (eqb (r .awaited) 0) (eqb (r .owed) 0) (isZero (r .triple)) (isZero (r .result)))
 
-pub zero-place-test : (m : Message) → eqb (m .kind) 0 && eqb (m .from) 0 && eqb (m .to) 0 && eqb (m .word) 0 ≡ zeroPlace m
+pub zero-place-test : (m : Message) (t : Bool) → t ≡ isZero (m .triple) → eqb (m .kind) 0 && eqb (m .from) 0 && eqb (m .to) 0 && t ≡ zeroPlace m
 unfolding zeroPlace
-zero-place-test m = four (eqb (m .kind) 0) (eqb (m .from) 0) (eqb (m .to) 0) (eqb (m .word) 0)
+zero-place-test m t e = rw e (four (eqb (m .kind) 0) (eqb (m .from) 0) (eqb (m .to) 0) (isZero (m .triple)))
 
 pub message-far : (n dead : ℕ) (m : Message) → n ≤ m .from → false ≡ messageInOrder n dead m
 message-far n dead m l = sym (fails (messageInOrder n dead m) (λ t. let h : m .from < n = message-o n dead m t .from-in in omega arith))
 
-six : (a b c d e f g : Bool) → a ≡ true → b && c && d && e && f && g ≡ all (a ∷ b ∷ c ∷ d ∷ e ∷ f ∷ g ∷ [])
-six a b c d e f g z = rw z (simp (all-step, all-nil, and-assoc, and-true))
+seven : (a b c d e f g h : Bool) → a ≡ true → b && c && d && e && f && g && h ≡ all (a ∷ b ∷ c ∷ d ∷ e ∷ f ∷ g ∷ h ∷ [])
+seven a b c d e f g h z = rw z (simp (all-step, all-nil, and-assoc, and-true))
 
-pub message-test : (n dead : ℕ) (m : Message) (u : ℕ) (w : Bool) → m .from < n → u ≡ below (m .from) → w ≡ isWithin u dead
-    → ltb (m .to) n && not (eqb (m .from) (m .to)) && leb up (m .kind) && leb (m .kind) ask && (not (eqb (m .kind) ask) || eqb (m .word) 0) && (not (eqb (m .kind) ask) || w) ≡ messageInOrder n dead m
+pub message-test : (n dead : ℕ) (m : Message) (u : ℕ) (w t z : Bool) → m .from < n → u ≡ below (m .from) → w ≡ isWithin u dead → t ≡ tripleWithin n (m .triple) → z ≡ isZero (m .triple)
+    → ltb (m .to) n && not (eqb (m .from) (m .to)) && leb up (m .kind) && leb (m .kind) ask && t && (not (eqb (m .kind) ask) || z) && (not (eqb (m .kind) ask) || w) ≡ messageInOrder n dead m
 unfolding messageInOrder
-message-test n dead m u w l e f =
-    rw (f, e)
-    (six (ltb (m .from) n) (ltb (m .to) n) (not (eqb (m .from) (m .to))) (leb up (m .kind)) (leb (m .kind) ask) (not (eqb (m .kind) ask) || eqb (m .word) 0) (not (eqb (m .kind) ask) || isWithin (below (m .from)) dead) (lt-ltb (m .from) n l))
+message-test n dead m u w t z l e f g h =
+    rw (f, e, g, h)
+    (seven (ltb (m .from) n) (ltb (m .to) n) (not (eqb (m .from) (m .to))) (leb up (m .kind)) (leb (m .kind) ask) (tripleWithin n (m .triple)) (not (eqb (m .kind) ask) || isZero (m .triple)) (not (eqb (m .kind) ask) || isWithin (below (m .from)) dead) (lt-ltb (m .from) n l))
 
 pub seat-member : (anc : ℕ → ℕ) (n dead i : ℕ) (r : Rank) (row : List ℕ) (t : Bool) → i < n → t ≡ memberInOrder anc n dead i r row → t ≡ seatInOrder anc n dead i r row
 unfolding seatInOrder

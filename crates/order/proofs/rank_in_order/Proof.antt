@@ -1,7 +1,7 @@
 -- `rank_in_order` meets its contract: a wrong table, or every other clause by its test. Assumes nothing.
-use borrow.Author.Needs.{needs}
 use Rattle.tree.proofs.Laws.Calls.{checked-fresh}
 use Rattle.order.proofs.Laws.Ranks.{unfresh, tested}
+use borrow.Author.Needs.{needs}
 use Rattle.order.proofs.rank_in_order.Statement.{statement}
 use Rattle.order.proofs.rank_in_order.Tie as tie
 
@@ -23,17 +23,29 @@ children-of-requires c κs = (search needs, (search needs, checked-fresh _ _ _ _
 minus-requires : tie.Need-minus-requires
 minus-requires c κs = search needs
 
+is-zero-requires : tie.Need-is-zero-requires
+is-zero-requires c κs = search needs
+
 sets-proper-requires : tie.Need-sets-proper-requires
 sets-proper-requires c κs = search needs
 
+is-within-requires : tie.Need-is-within-requires
+is-within-requires c κs = search needs
+
+triples-within-requires : tie.Need-triples-within-requires
+triples-within-requires c κs = search needs
+
 returns-2 : tie.Need-returns-2
 returns-2 c =
-    let proper = c .before .before in
-    let awaited = proper .before .before .before .before .before .before in
+    let within = c .before .before in
+    let marked = within .before in
+    let proper = marked .before in
+    let zero = proper .before in
+    let awaited = zero .before .before .before .before .before .before in
     let children = awaited .before in
     let fresh = children .before in
     let pre = fresh .before .before .before .pre in
-    tested _ _ _ _ _ _ _ _ _ _ (pre .0) (pre .1) (fresh .before .before .fresh .ensures) (fresh .before .same .ensures) (fresh .if1 .left) (children .children-of .ensures) (awaited .minus .ensures) (proper .sets-proper .ensures)
+    tested _ _ _ _ _ _ _ _ _ _ _ _ _ (pre .0) (pre .1) (fresh .before .before .fresh .ensures) (fresh .before .same .ensures) (fresh .if1 .left) (children .children-of .ensures) (awaited .minus .ensures) (proper .sets-proper .ensures) (marked .is-within .ensures) (within .triples-within .ensures) (zero .is-zero .ensures)
 
 pub rank-in-order-spec : {M : Type 1} → statement M
 rank-in-order-spec =
@@ -45,5 +57,8 @@ rank-in-order-spec =
     array-read-parent
     children-of-requires
     minus-requires
+    is-zero-requires
     sets-proper-requires
+    is-within-requires
+    triples-within-requires
     returns-2)

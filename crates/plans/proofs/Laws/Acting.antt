@@ -16,9 +16,9 @@ use Rattle.rank.specs.declared.Rank.{Rank}
 use Rattle.rank.specs.declared.Message.{Message}
 use Rattle.rank.specs.declared.Acted.{Acted}
 use Rattle.rank.specs.Words.{outside, up, down, ask}
-use Rattle.rank.specs.Rules.{entering, takingUp, takingDown, takingAsk, noticing}
+use Rattle.rank.specs.Rules.{entering, takingUp, takingDown, takingAsk, noticing, acknowledging}
 use Rattle.rank.proofs.Facts.{Posted, ActedInOrder, MemberInOrder}
-use Rattle.rank.proofs.Laws.Keeping.{silent-posted, enter-in-order, up-in-order, down-in-order, ask-in-order, notice-in-order}
+use Rattle.rank.proofs.Laws.Keeping.{silent-posted, enter-in-order, up-in-order, down-in-order, ask-in-order, notice-in-order, acknowledge-in-order}
 use Rattle.net.proofs.Facts.{MessageInOrder}
 use Rattle.events.specs.declared.Event.{Event}
 use Rattle.plans.specs.Plans.{idle, delivered, acting}
@@ -30,11 +30,11 @@ pub record Outcome (anc : ℕ → ℕ) (n dead me : ℕ) (a : Acted) : Type 0 wh
   pub first-posted : Posted n me (a .rank .marks) (a .first)
   pub second-posted : Posted n me (a .rank .marks) (a .second)
 
-in-order-outcome : (anc : ℕ → ℕ) (n dead me marks : ℕ) (a : Acted) → ActedInOrder anc n me marks a → ((k : ℕ) → has marks k ≡ true → has dead k ≡ true) → Outcome anc n dead me a
-in-order-outcome anc n dead me marks a s h = record {
-  seat = record { in-order = s .in-order; table = s .row-is ∙ ap (fresh anc n) (sym (s .marks-are)); marks-dead = λ k t. h k (subst (λ (x : ℕ). has x k ≡ true) (s .marks-are) t) };
-  first-posted = subst (λ (x : ℕ). Posted n me x (a .first)) (sym (s .marks-are)) (s .first-posted);
-  second-posted = subst (λ (x : ℕ). Posted n me x (a .second)) (sym (s .marks-are)) (s .second-posted);
+in-order-outcome : (anc : ℕ → ℕ) (n dead me marks acknowledged : ℕ) (a : Acted) → ActedInOrder anc n me marks acknowledged a → ((k : ℕ) → has marks k ≡ true → has dead k ≡ true) → Outcome anc n dead me a
+in-order-outcome anc n dead me marks acknowledged a s h = record {
+  seat = record { in-order = s .in-order; table = s .row-is ∙ ap (fresh anc n) (sym (s .knows .marks-are)); marks-dead = λ k t. h k (subst (λ (x : ℕ). has x k ≡ true) (s .knows .marks-are) t) };
+  first-posted = subst (λ (x : ℕ). Posted n me x (a .first)) (sym (s .knows .marks-are)) (s .first-posted);
+  second-posted = subst (λ (x : ℕ). Posted n me x (a .second)) (sym (s .knows .marks-are)) (s .second-posted);
 }
 
 module _ (anc : ℕ → ℕ) (n dead me : ℕ) (small : n ≤ 64) (own : me < n) where
@@ -59,11 +59,11 @@ module _ (anc : ℕ → ℕ) (n dead me : ℕ) (small : n ≤ 64) (own : me < n)
 
   delivered-outcome : (m : Message) (r : Rank) (row : List ℕ) → MessageInOrder n dead m → m .to ≡ me → MemberInOrder anc n dead me r row → Outcome anc n dead me (delivered anc n dead me m r row)
   delivered-outcome m r row l e s = delivered-by anc n dead me m r row (Outcome anc n dead me) (λ d. idle-outcome r row s)
-      (λ t u. in-order-outcome anc n dead me (r .marks) (takingUp anc n me (m .from) (m .word) r) (up-in-order anc n me small own (m .from) (m .word) r (s .in-order) (l .from-in) (λ q. l .differ (q ∙ sym e))) (s .marks-dead))
-      (λ t d. in-order-outcome anc n dead me (r .marks) (takingDown anc n me (m .word) r) (down-in-order anc n me small own (m .word) r (s .in-order)) (s .marks-dead))
+      (λ t u. in-order-outcome anc n dead me (r .marks) (r .acknowledged) (takingUp anc n me (m .from) (m .triple) r) (up-in-order anc n me small own (m .from) (m .triple) r (s .in-order) (l .triple-in) (l .from-in) (λ q. l .differ (q ∙ sym e))) (s .marks-dead))
+      (λ t d. in-order-outcome anc n dead me (r .marks) (r .acknowledged) (takingDown anc n me (m .triple) r) (down-in-order anc n me small own (m .triple) r (s .in-order) (l .triple-in)) (s .marks-dead))
       (λ t u d.
       let k : m .kind ≡ ask = only-ask (m .kind) (l .kind-low) (l .kind-high) u d in
-      in-order-outcome anc n dead me (union (r .marks) (below (m .from))) (takingAsk anc n me (m .from) r) (ask-in-order anc n me small own (m .from) r (s .in-order) (asker-below m l e k (t .lives)) (t .unmarked)) (ask-marks m r row l k s))
+      in-order-outcome anc n dead me (union (r .marks) (below (m .from))) (r .acknowledged) (takingAsk anc n me (m .from) r) (ask-in-order anc n me small own (m .from) r (s .in-order) (asker-below m l e k (t .lives)) (t .unmarked)) (ask-marks m r row l k s))
     where
       only-ask : (k : ℕ) → up ≤ k → k ≤ ask → (k ≡ up → ⊥) → (k ≡ down → ⊥) → k ≡ ask
       only-ask k a b c d = omega arith
@@ -71,15 +71,18 @@ module _ (anc : ℕ → ℕ) (n dead me : ℕ) (small : n ≤ 64) (own : me < n)
   -- ---- any event that is not refused
 
   enters-outcome : (b : ℕ) (r : Rank) (row : List ℕ) → r .phase ≡ outside → MemberInOrder anc n dead me r row → Outcome anc n dead me (entering anc n me b r)
-  enters-outcome b r row p s = in-order-outcome anc n dead me (r .marks) (entering anc n me b r) (enter-in-order anc n me small own b r (s .in-order) p) (s .marks-dead)
+  enters-outcome b r row p s = in-order-outcome anc n dead me (r .marks) (r .acknowledged) (entering anc n me b r) (enter-in-order anc n me small own b r (s .in-order) p) (s .marks-dead)
 
   notices-outcome : (b : ℕ) (r : Rank) (row : List ℕ) → b < n → has dead b ≡ true → has dead me ≡ false → MemberInOrder anc n dead me r row → Outcome anc n dead me (noticing anc n me b r)
   notices-outcome b r row l d f s =
       let o : b ≡ me → ⊥ = λ q. clash (has dead me) (subst (λ (x : ℕ). has dead x ≡ true) q d) f in
-      in-order-outcome anc n dead me (add (r .marks) b) (noticing anc n me b r) (notice-in-order anc n me small own b r (s .in-order) l o)
+      in-order-outcome anc n dead me (add (r .marks) b) (r .acknowledged) (noticing anc n me b r) (notice-in-order anc n me small own b r (s .in-order) l o)
       (λ j u. ⊎-elim (s .marks-dead j) (λ (q : eqb j b ≡ true). subst (λ (x : ℕ). has dead x ≡ true) (sym (eqb-true j b q)) d) (or-cases (has (r .marks) j) (eqb j b) (sym (has-add (r .marks) b j) ∙ u)))
+
+  acknowledges-outcome : (r : Rank) (row : List ℕ) → MemberInOrder anc n dead me r row → Outcome anc n dead me (acknowledging anc n me r)
+  acknowledges-outcome r row s = in-order-outcome anc n dead me (r .marks) (r .marks) (acknowledging anc n me r) (acknowledge-in-order anc n me small own r (s .in-order)) (s .marks-dead)
 
   pub acting-outcome : (ev : Event) (m : Message) (r : Rank) (row : List ℕ) → MemberInOrder anc n dead me r row → (ev .kind ≡ 1 → r .phase ≡ outside) → (ev .kind ≡ 2 → MessageInOrder n dead m × (m .to ≡ me))
       → (ev .kind ≡ 4 → (ev .b < n) × (has dead (ev .b) ≡ true) × (has dead me ≡ false)) → Outcome anc n dead me (acting anc n dead ev m me r row)
   acting-outcome ev m r row s e d t = acting-by anc n dead me m r row (Outcome anc n dead me) ev (λ k. enters-outcome (ev .b) r row (e k) s) (λ k. let x = d k in delivered-outcome m r row (x .0) (x .1) s)
-      (λ k. let x = t k in notices-outcome (ev .b) r row (x .0) (x .1) (x .2) s) (λ x y z. idle-outcome r row s)
+      (λ k. let x = t k in notices-outcome (ev .b) r row (x .0) (x .1) (x .2) s) (λ k. acknowledges-outcome r row s) (λ x y z w. idle-outcome r row s)

@@ -12,7 +12,7 @@ use Rattle.rank.specs.declared.Rank.{Rank}
 use Rattle.rank.specs.declared.Message.{Message}
 use Rattle.rank.specs.declared.Acted.{Acted}
 use Rattle.rank.specs.Words.{up, down}
-use Rattle.rank.specs.Rules.{entering, takingUp, takingDown, takingAsk, noticing}
+use Rattle.rank.specs.Rules.{entering, takingUp, takingDown, takingAsk, noticing, acknowledging}
 use Rattle.rank.proofs.Laws.Cases.{by-test}
 use Rattle.events.specs.declared.Event.{Event}
 use Rattle.plans.specs.Plans.{idle, delivered, acting}
@@ -35,24 +35,25 @@ is-undropped dead me m r t = let u = or-neither (has dead me) (has (r .marks) (m
 
 module _ (anc : ℕ → ℕ) (n dead me : ℕ) (m : Message) (r : Rank) (row : List ℕ) (P : Acted → Type 0) where
   pub delivered-by : (Dropped dead me m r → P (idle r row))
-      → (Undropped dead me m r → m .kind ≡ up → P (takingUp anc n me (m .from) (m .word) r))
-      → (Undropped dead me m r → m .kind ≡ down → P (takingDown anc n me (m .word) r))
+      → (Undropped dead me m r → m .kind ≡ up → P (takingUp anc n me (m .from) (m .triple) r))
+      → (Undropped dead me m r → m .kind ≡ down → P (takingDown anc n me (m .triple) r))
       → (Undropped dead me m r → (m .kind ≡ up → ⊥) → (m .kind ≡ down → ⊥) → P (takingAsk anc n me (m .from) r))
       → P (delivered anc n dead me m r row)
   unfolding delivered
   delivered-by dropped raises lowers asks =
       by-test P (has dead me || has (r .marks) (m .from)) (idle r row) rest (λ t. dropped (is-dropped dead me m r t))
-      (λ t. let k = is-undropped dead me m r t in by-test P (eqb (m .kind) up) (takingUp anc n me (m .from) (m .word) r) (cond (eqb (m .kind) down) (takingDown anc n me (m .word) r) (takingAsk anc n me (m .from) r))
+      (λ t. let k = is-undropped dead me m r t in by-test P (eqb (m .kind) up) (takingUp anc n me (m .from) (m .triple) r) (cond (eqb (m .kind) down) (takingDown anc n me (m .triple) r) (takingAsk anc n me (m .from) r))
       (λ u. raises k (eqb-true (m .kind) up u))
-      (λ u. by-test P (eqb (m .kind) down) (takingDown anc n me (m .word) r) (takingAsk anc n me (m .from) r) (λ d. lowers k (eqb-true (m .kind) down d)) (λ d. asks k (eqb-false (m .kind) up u) (eqb-false (m .kind) down d))))
+      (λ u. by-test P (eqb (m .kind) down) (takingDown anc n me (m .triple) r) (takingAsk anc n me (m .from) r) (λ d. lowers k (eqb-true (m .kind) down d)) (λ d. asks k (eqb-false (m .kind) up u) (eqb-false (m .kind) down d))))
     where
       rest : Acted
-      rest = cond (eqb (m .kind) up) (takingUp anc n me (m .from) (m .word) r) (cond (eqb (m .kind) down) (takingDown anc n me (m .word) r) (takingAsk anc n me (m .from) r))
+      rest = cond (eqb (m .kind) up) (takingUp anc n me (m .from) (m .triple) r) (cond (eqb (m .kind) down) (takingDown anc n me (m .triple) r) (takingAsk anc n me (m .from) r))
 
-  pub acting-by : (ev : Event) → (ev .kind ≡ 1 → P (entering anc n me (ev .b) r)) → (ev .kind ≡ 2 → P (delivered anc n dead me m r row)) → (ev .kind ≡ 4 → P (noticing anc n me (ev .b) r))
-      → ((ev .kind ≡ 1 → ⊥) → (ev .kind ≡ 2 → ⊥) → (ev .kind ≡ 4 → ⊥) → P (idle r row)) → P (acting anc n dead ev m me r row)
+  pub acting-by : (ev : Event) → (ev .kind ≡ 1 → P (entering anc n me (ev .b) r)) → (ev .kind ≡ 2 → P (delivered anc n dead me m r row)) → (ev .kind ≡ 4 → P (noticing anc n me (ev .b) r)) → (ev .kind ≡ 6 → P (acknowledging anc n me r))
+      → ((ev .kind ≡ 1 → ⊥) → (ev .kind ≡ 2 → ⊥) → (ev .kind ≡ 4 → ⊥) → (ev .kind ≡ 6 → ⊥) → P (idle r row)) → P (acting anc n dead ev m me r row)
   unfolding acting
-  acting-by ev enters delivers notices other =
-      by-test P (eqb (ev .kind) 1) (entering anc n me (ev .b) r) (cond (eqb (ev .kind) 2) (delivered anc n dead me m r row) (cond (eqb (ev .kind) 4) (noticing anc n me (ev .b) r) (idle r row))) (λ t. enters (eqb-true (ev .kind) 1 t))
-      (λ t. by-test P (eqb (ev .kind) 2) (delivered anc n dead me m r row) (cond (eqb (ev .kind) 4) (noticing anc n me (ev .b) r) (idle r row)) (λ u. delivers (eqb-true (ev .kind) 2 u))
-      (λ u. by-test P (eqb (ev .kind) 4) (noticing anc n me (ev .b) r) (idle r row) (λ v. notices (eqb-true (ev .kind) 4 v)) (λ v. other (eqb-false (ev .kind) 1 t) (eqb-false (ev .kind) 2 u) (eqb-false (ev .kind) 4 v))))
+  acting-by ev enters delivers notices acknowledges other =
+      by-test P (eqb (ev .kind) 1) (entering anc n me (ev .b) r) (cond (eqb (ev .kind) 2) (delivered anc n dead me m r row) (cond (eqb (ev .kind) 4) (noticing anc n me (ev .b) r) (cond (eqb (ev .kind) 6) (acknowledging anc n me r) (idle r row)))) (λ t. enters (eqb-true (ev .kind) 1 t))
+      (λ t. by-test P (eqb (ev .kind) 2) (delivered anc n dead me m r row) (cond (eqb (ev .kind) 4) (noticing anc n me (ev .b) r) (cond (eqb (ev .kind) 6) (acknowledging anc n me r) (idle r row))) (λ u. delivers (eqb-true (ev .kind) 2 u))
+      (λ u. by-test P (eqb (ev .kind) 4) (noticing anc n me (ev .b) r) (cond (eqb (ev .kind) 6) (acknowledging anc n me r) (idle r row)) (λ v. notices (eqb-true (ev .kind) 4 v))
+      (λ v. by-test P (eqb (ev .kind) 6) (acknowledging anc n me r) (idle r row) (λ w. acknowledges (eqb-true (ev .kind) 6 w)) (λ w. other (eqb-false (ev .kind) 1 t) (eqb-false (ev .kind) 2 u) (eqb-false (ev .kind) 4 v) (eqb-false (ev .kind) 6 w)))))

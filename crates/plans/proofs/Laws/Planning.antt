@@ -12,7 +12,7 @@ use Rattle.rank.specs.declared.Rank.{Rank}
 use Rattle.rank.specs.declared.Message.{Message}
 use Rattle.rank.specs.declared.Acted.{Acted}
 use Rattle.rank.specs.Words.{up, down}
-use Rattle.rank.specs.Rules.{entering, takingUp, takingDown, takingAsk, noticing}
+use Rattle.rank.specs.Rules.{entering, takingUp, takingDown, takingAsk, noticing, acknowledging}
 use Rattle.events.specs.declared.Event.{Event}
 use Rattle.events.specs.Events.{namesPlace}
 use Rattle.refusals.specs.Refusing.{refusal}
@@ -51,12 +51,12 @@ module _ (anc : ℕ → ℕ) (n dead : ℕ) where
   deliver-dropped me m r row d k a e f t g = g ∙ rw (← e, ← f, t)
 
   pub deliver-up : (me : ℕ) (m : Message) (r : Rank) (row : List ℕ) (d k : Bool) (a : Acted) → d ≡ has dead me → k ≡ has (r .marks) (m .from) → d || k ≡ false → m .kind ≡ up
-      → a ≡ takingUp anc n me (m .from) (m .word) r → a ≡ delivered anc n dead me m r row
+      → a ≡ takingUp anc n me (m .from) (m .triple) r → a ≡ delivered anc n dead me m r row
   unfolding delivered
   deliver-up me m r row d k a e f t h g = g ∙ rw (← e, ← f, t, eq-eqb (m .kind) up h)
 
   pub deliver-down : (me : ℕ) (m : Message) (r : Rank) (row : List ℕ) (d k : Bool) (a : Acted) → d ≡ has dead me → k ≡ has (r .marks) (m .from) → d || k ≡ false → (m .kind ≡ up → ⊥) → m .kind ≡ down
-      → a ≡ takingDown anc n me (m .word) r → a ≡ delivered anc n dead me m r row
+      → a ≡ takingDown anc n me (m .triple) r → a ≡ delivered anc n dead me m r row
   unfolding delivered
   deliver-down me m r row d k a e f t i h g = g ∙ rw (← e, ← f, t, ne-eqb (m .kind) up i, eq-eqb (m .kind) down h)
 
@@ -79,9 +79,13 @@ module _ (anc : ℕ → ℕ) (n dead : ℕ) where
   unfolding acting
   act-notices ev m me r row a h i k e = e ∙ rw (ne-eqb (ev .kind) 1 h, ne-eqb (ev .kind) 2 i, eq-eqb (ev .kind) 4 k)
 
-  pub act-nothing : (ev : Event) (m : Message) (me : ℕ) (r : Rank) (row : List ℕ) (a : Acted) → (ev .kind ≡ 1 → ⊥) → (ev .kind ≡ 2 → ⊥) → (ev .kind ≡ 4 → ⊥) → a ≡ idle r row → a ≡ acting anc n dead ev m me r row
+  pub act-acknowledges : (ev : Event) (m : Message) (me : ℕ) (r : Rank) (row : List ℕ) (a : Acted) → (ev .kind ≡ 1 → ⊥) → (ev .kind ≡ 2 → ⊥) → (ev .kind ≡ 4 → ⊥) → ev .kind ≡ 6 → a ≡ acknowledging anc n me r → a ≡ acting anc n dead ev m me r row
   unfolding acting
-  act-nothing ev m me r row a h i k e = e ∙ rw (ne-eqb (ev .kind) 1 h, ne-eqb (ev .kind) 2 i, ne-eqb (ev .kind) 4 k)
+  act-acknowledges ev m me r row a h i j k e = e ∙ rw (ne-eqb (ev .kind) 1 h, ne-eqb (ev .kind) 2 i, ne-eqb (ev .kind) 4 j, eq-eqb (ev .kind) 6 k)
+
+  pub act-nothing : (ev : Event) (m : Message) (me : ℕ) (r : Rank) (row : List ℕ) (a : Acted) → (ev .kind ≡ 1 → ⊥) → (ev .kind ≡ 2 → ⊥) → (ev .kind ≡ 4 → ⊥) → (ev .kind ≡ 6 → ⊥) → a ≡ idle r row → a ≡ acting anc n dead ev m me r row
+  unfolding acting
+  act-nothing ev m me r row a h i j k e = e ∙ rw (ne-eqb (ev .kind) 1 h, ne-eqb (ev .kind) 2 i, ne-eqb (ev .kind) 4 j, ne-eqb (ev .kind) 6 k)
 
   -- ---- the plan
 
@@ -89,6 +93,11 @@ module _ (anc : ℕ → ℕ) (n dead : ℕ) where
       → p ≡ planned anc n dead c ev m me r row
   unfolding planned
   plan-refused c ev m me r row z p e h f = f ∙ rw (← e, ne-eqb z 0 h)
+
+  -- and answers with the refusal's number
+  pub plan-answers : (c : ℕ) (ev : Event) (m : Message) (me : ℕ) (r : Rank) (row : List ℕ) (z : ℕ) → z ≡ refusal n dead c ev r m → (z ≡ 0 → ⊥) → planned anc n dead c ev m me r row .answer ≡ z
+  unfolding planned refusing
+  plan-answers c ev m me r row z e h = rw (← e, ne-eqb z 0 h)
 
   pub plan-full : (c : ℕ) (ev : Event) (m : Message) (me : ℕ) (r : Rank) (row : List ℕ) (z : ℕ) (x : Acted) (l : Bool) (f g t : ℕ) (p : Plan) → z ≡ refusal n dead c ev r m → z ≡ 0
       → x ≡ acting anc n dead ev m me r row → l ≡ namesPlace (ev .kind) → f ≡ count (has (x .first .to)) 64 → g ≡ count (has (x .second .to)) 64 → t ≡ c + f + g - cond l 1 0 → 128 < t → p ≡ refusing 11 r row

@@ -1,7 +1,7 @@
 -- `act` meets its contract: each return is a case of the definition. Assumes nothing.
 use borrow.Author.Needs.{needs}
 use native.Mathlib.Omega.{arith}
-use Rattle.plans.proofs.Laws.Planning.{act-enters, act-delivers, act-notices, act-nothing}
+use Rattle.plans.proofs.Laws.Planning.{act-enters, act-delivers, act-notices, act-acknowledges, act-nothing}
 use Rattle.plans.proofs.act.Statement.{statement}
 use Rattle.plans.proofs.act.Tie as tie
 
@@ -26,11 +26,17 @@ notice-requires c κs = (search needs, (search needs, c .before .before .before 
 returns-3 : tie.Need-returns-3
 returns-3 c = search act-notices
 
+acknowledge-requires : tie.Need-acknowledge-requires
+acknowledge-requires c κs = search needs
+
+returns-4 : tie.Need-returns-4
+returns-4 c = search act-acknowledges
+
 idle-requires : tie.Need-idle-requires
 idle-requires c κs = search needs
 
-returns-4 : tie.Need-returns-4
-returns-4 c = search act-nothing
+returns-5 : tie.Need-returns-5
+returns-5 c = search act-nothing
 
 pub act-spec : {M : Type 1} → statement M
 act-spec =
@@ -43,5 +49,7 @@ act-spec =
     cast-notice
     notice-requires
     returns-3
+    acknowledge-requires
+    returns-4
     idle-requires
-    returns-4)
+    returns-5)

@@ -1,8 +1,7 @@
--- `plan_event` meets its contract: a refusal, no room, or what the event does. Assumes nothing.
+-- `plan_event` meets its contract: a refusal, or the plan of an event that is not refused. Assumes nothing.
 use borrow.Author.Needs.{needs}
 use mathlib.Core.Path.{sym, _∙_}
-use Rattle.refusals.proofs.Laws.Refusing.{notice-names}
-use Rattle.plans.proofs.Laws.Planning.{plan-refused, plan-full, plan-accepted}
+use Rattle.plans.proofs.Laws.Planning.{plan-refused}
 use Rattle.plans.proofs.plan_event.Statement.{statement}
 use Rattle.plans.proofs.plan_event.Tie as tie
 
@@ -15,50 +14,13 @@ refuse-requires c κs = search needs
 returns : tie.Need-returns
 returns c = search plan-refused
 
-act-requires : tie.Need-act-requires
-act-requires c κs = (search needs, notice-names _ _ _ _ _ _ (sym (c .before .refusal .ensures) ∙ c .if1 .left))
-
-names-place-requires : tie.Need-names-place-requires
-names-place-requires c κs = search needs
-
-size-requires : tie.Need-size-requires
-size-requires c κs = search needs
-
-size-requires-2 : tie.Need-size-requires-2
-size-requires-2 c κs = search needs
-
-afterwards-requires : tie.Need-afterwards-requires
-afterwards-requires c κs = search needs
-
-refuse-requires-2 : tie.Need-refuse-requires-2
-refuse-requires-2 c κs = search needs
+plan-clean-requires : tie.Need-plan-clean-requires
+plan-clean-requires c κs = (search needs, sym (c .before .refusal .ensures) ∙ c .if1 .left)
 
 returns-2 : tie.Need-returns-2
-returns-2 c = search plan-full
-
-returns-3 : tie.Need-returns-3
-returns-3 c =
-    let left = c .before in
-    let after = left .before in
-    let second = after .before in
-    let first = second .before in
-    let place = first .before in
-    let act = place .before .before .before in
-    let clean = act .before in
-    plan-accepted _ _ _ _ _ _ _ _ _ _ _ _ _ _ _ (clean .before .refusal .ensures) (clean .if1 .left) (act .act .ensures) (place .names-place .ensures) (first .size .ensures) (second .size2 .ensures) (after .afterwards .ensures) (left .if2 .left)
+returns-2 c = search needs
 
 pub plan-event-spec : {M : Type 1} → statement M
 plan-event-spec =
     tie.close
-    (tie.spec
-    refusal-requires
-    refuse-requires
-    returns
-    act-requires
-    names-place-requires
-    size-requires
-    size-requires-2
-    afterwards-requires
-    refuse-requires-2
-    returns-2
-    returns-3)
+    (tie.spec refusal-requires refuse-requires returns plan-clean-requires returns-2)

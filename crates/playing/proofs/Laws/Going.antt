@@ -13,16 +13,17 @@ use Rattle.tree.specs.Tree.{flat, fresh, nobody}
 use Rattle.rank.specs.declared.Rank.{Rank}
 use Rattle.rank.specs.declared.Message.{Message}
 use Rattle.rank.specs.Sends.{size}
-use Rattle.net.specs.Net.{zeroMessage, padded, placed, messagesOf}
-use Rattle.net.proofs.Laws.Numbers.{messages-short, held-long}
+use Rattle.net.specs.Net.{zeroMessage, padded, placed}
 use Rattle.events.specs.declared.Event.{Event}
 use Rattle.state.specs.declared.State.{State}
 use Rattle.state.specs.States.{zeroRank, joined}
 use Rattle.order.specs.Between.{InOrder}
 use Rattle.order.proofs.Laws.Ordering.{in-order-facts}
+use Rattle.refusals.specs.Refusing.{refusal}
 use Rattle.plans.specs.declared.Plan.{Plan}
 use Rattle.plans.specs.Plans.{subject, planned}
 use Rattle.plans.specs.Between.{FreshSubject}
+use Rattle.plans.proofs.Laws.Planning.{plan-answers}
 use Rattle.group.specs.declared.Stepped.{Stepped}
 use Rattle.group.specs.Events.{posted, event}
 use Rattle.group.proofs.Laws.Stepping.{subject-below, step-ready, step-held, step-count, step-refused, step-accepted}
@@ -94,6 +95,9 @@ pub going-subject : (total : ℕ) (s₀ : State) (out₀ : List ℕ) (n dead c :
     → Going total s₀ out₀ (held n dead c ranks net tables) out k → m ≡ getD net (ev .a) zeroMessage → me ≡ subject n ev m → me < 64
 going-subject total s₀ out₀ n dead c ranks net tables out k ev m me g = subject-below (held n dead c ranks net tables) ev m me (g .in-order)
 
+pub going-small : (total : ℕ) (s₀ : State) (out₀ : List ℕ) (n dead c : ℕ) (ranks : List Rank) (net : List Message) (tables : List (List ℕ)) (out : List ℕ) (k : ℕ) → Going total s₀ out₀ (held n dead c ranks net tables) out k → n ≤ 64
+going-small total s₀ out₀ n dead c ranks net tables out k g = in-order-facts flat (held n dead c ranks net tables) (g .in-order) .size-high
+
 pub going-ready : (total : ℕ) (s₀ : State) (out₀ : List ℕ) (n dead c : ℕ) (ranks : List Rank) (net : List Message) (tables : List (List ℕ)) (out : List ℕ) (k : ℕ) (ev : Event) (m : Message) (me : ℕ)
     → Going total s₀ out₀ (held n dead c ranks net tables) out k → m ≡ getD net (ev .a) zeroMessage → me ≡ subject n ev m → FreshSubject flat n m me (getD ranks me zeroRank) (getD tables me [])
 going-ready total s₀ out₀ n dead c ranks net tables out k ev m me g e f = step-ready (held n dead c ranks net tables) ev m me tables (g .in-order) e f refl
@@ -106,11 +110,6 @@ pub going-count : (total : ℕ) (s₀ : State) (out₀ : List ℕ) (n dead c : �
     → Going total s₀ out₀ (held n dead c ranks net tables) out k → c ≤ 128
 going-count total s₀ out₀ n dead c ranks net tables out k g = step-count (held n dead c ranks net tables) (g .in-order)
 
-pub going-long : (total : ℕ) (s₀ : State) (out₀ : List ℕ) (n dead c : ℕ) (ranks : List Rank) (net : List ℕ) (tables : List (List ℕ)) (out : List ℕ) (k : ℕ)
-    → Going total s₀ out₀ (held n dead c ranks (messagesOf net) tables) out k → length net ≡ 128
-going-long total s₀ out₀ n dead c ranks net tables out k g =
-    messages-short net 128 (held-long (messagesOf net) c (going-count total s₀ out₀ n dead c ranks (messagesOf net) tables out k g) (going-held total s₀ out₀ n dead c ranks (messagesOf net) tables out k g))
-
 -- ---- the next turn
 
 pub going-refused : (total : ℕ) (s₀ : State) (out₀ : List ℕ) (n dead c : ℕ) (ranks : List Rank) (net : List Message) (tables : List (List ℕ)) (out : List ℕ) (k : ℕ) (ev : Event) (m : Message) (me : ℕ) (p : Plan) (v : List ℕ)
@@ -122,6 +121,16 @@ going-refused total s₀ out₀ n dead c ranks net tables out k ev m me p v g l 
     rw w
     (going-on total s₀ out₀ s out k (record { answer = p .answer; sent = 0; moved = nobody; state = s }) g l
     (step-refused s ev m me tables p em eg refl ep z ∙ sym (event-steps-on flat s ev (g .in-order)) ∙ ap (event flat s) ee))
+
+-- the same where a refusal comes before a plan
+pub going-unplanned : (total : ℕ) (s₀ : State) (out₀ : List ℕ) (n dead c : ℕ) (ranks : List Rank) (net : List Message) (tables : List (List ℕ)) (out : List ℕ) (k : ℕ) (ev : Event) (m : Message) (me number : ℕ) (v : List ℕ)
+    → Going total s₀ out₀ (held n dead c ranks net tables) out k → k < total → ev ≡ eventIn out k → m ≡ getD net (ev .a) zeroMessage → me ≡ subject n ev m
+    → number ≡ refusal n dead c ev (getD ranks me zeroRank) m → v ≡ written out k number 0 0 → (number ≡ 0 → ⊥)
+    → Going total s₀ out₀ (held n dead c ranks net tables) v (k + 1)
+going-unplanned total s₀ out₀ n dead c ranks net tables out k ev m me number v g l ee em eg er w z =
+    let e : planned flat n dead c ev m me (getD ranks me zeroRank) (getD tables me []) .answer ≡ number = plan-answers flat n dead c ev m me (getD ranks me zeroRank) (getD tables me []) number er z in
+    going-refused total s₀ out₀ n dead c ranks net tables out k ev m me (planned flat n dead c ev m me (getD ranks me zeroRank) (getD tables me [])) v g l ee em eg refl
+    (w ∙ ap (λ (x : ℕ). written out k x 0 0) (sym e)) (λ h. z (sym e ∙ h))
 
 pub going-accepted : (total : ℕ) (s₀ : State) (out₀ : List ℕ) (n dead c : ℕ) (ranks : List Rank) (net : List Message) (tables : List (List ℕ)) (out : List ℕ) (k : ℕ) (ev : Event) (m : Message) (me : ℕ) (p : Plan) (v : List ℕ) (sent c′ : ℕ) (next : List Message) (d : ℕ)
     → Going total s₀ out₀ (held n dead c ranks net tables) out k → k < total → ev ≡ eventIn out k → m ≡ getD net (ev .a) zeroMessage → me ≡ subject n ev m

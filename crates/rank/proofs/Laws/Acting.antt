@@ -17,20 +17,22 @@ use Rattle.tree.specs.Tree.{parent, children, nobody}
 use Rattle.tree.specs.Calls.{mended, mendedBelow}
 use Rattle.tree.specs.declared.Mended.{Mended}
 use Rattle.tree.proofs.Laws.Rows.{fresh-at}
-use Rattle.tree.proofs.Laws.Mending.{mended-marks, mended-moved, mended-fresh, below-marks, below-moved, below-fresh, children-end, entries-fresh, children-gained}
+use Rattle.tree.proofs.Laws.Mending.{mended-marks, mended-moved, mended-fresh, below-marks, below-moved, below-fresh, linked-children, entries-fresh, children-gained}
 use Rattle.tree.proofs.Laws.Parents.{parent-lt}
 use Rattle.tree.proofs.Laws.Children.{child-test, children-after}
 use Rattle.rank.specs.declared.Rank.{Rank}
 use Rattle.rank.specs.declared.Send.{Send}
 use Rattle.rank.specs.declared.Said.{Said}
 use Rattle.rank.specs.declared.Acted.{Acted}
-use Rattle.rank.specs.Words.{gathering, waiting, decided, combine}
-use Rattle.rank.specs.Records.{becoming, combining, concluding, owing, parentOf, childrenOf, awaiting, hearing, viewing}
+use Rattle.rank.specs.declared.Triple.{Triple}
+use Rattle.rank.specs.Words.{gathering, waiting, decided}
+use Rattle.rank.specs.Triples.{combine, closing}
+use Rattle.rank.specs.Records.{becoming, combining, concluding, owing, admitting, proposal, parentOf, childrenOf, awaiting, hearing, viewing}
 use Rattle.rank.specs.Sends.{silent, reports, tells, asks}
-use Rattle.rank.specs.Rules.{inPhase, saying, deciding, settled, done, settling, entering, noting, raised, takingUp, lowered, takingDown, asked, takingAsk, renewing, regathering, orphaned, inheriting, bereaved, noticing}
+use Rattle.rank.specs.Rules.{inPhase, saying, deciding, settled, done, settling, entering, noting, raised, takingUp, lowered, takingDown, asked, takingAsk, renewing, regathering, orphaned, inheriting, bereaved, noticing, acknowledging}
 use Rattle.rank.specs.Between.{FreshRow}
 use Rattle.rank.proofs.Laws.Cases.{asked-by, orphaned-by, bereaved-by}
-use Rattle.rank.proofs.Laws.Knowing.{settled-marks, asked-marks, bereaved-marks}
+use Rattle.rank.proofs.Laws.Knowing.{settled-knows, asked-knows, bereaved-knows}
 
 -- l are linked, m marked, h heard and o owed: of the linked, who was heard is looked for only where not owed
 there-anyway : (l m h o : ℕ) → minus (union (union (minus (minus l m) h) (meet (minus h o) l)) o) m ≡ minus (union (minus l m) o) m
@@ -67,10 +69,6 @@ module _ (anc : ℕ → ℕ) where
   linked-is : (n me w y : ℕ) (r : Rank) (row : List ℕ) → FreshRow anc n me r row → y ≡ meet w (setOf (λ p. eqb (getD row p 0) me) 64) → y ≡ meet w (setOf (λ p. eqb (parent anc (r .marks) p) me) n)
   linked-is n me w y r row k e = e ∙ ap (meet w) (entries-fresh anc n (r .marks) me row (k .size) (omega (arith, k .size, k .own)) (k .table))
 
-  -- the children are the unmarked ones of these
-  linked-children : (n me marks : ℕ) → minus (setOf (λ p. eqb (parent anc marks p) me) n) marks ≡ children anc n marks me
-  linked-children n me marks = children-end anc n marks me n _ _ (record { past = λ p b l. absurd (omega arith); held = refl }) (omega arith) refl
-
   -- ---- settle
 
   settled-not : (n me : ℕ) (r : Rank) → inPhase gathering r && eqb (r .awaited) 0 ≡ false → settled anc n me r ≡ saying r silent
@@ -84,7 +82,7 @@ module _ (anc : ℕ → ℕ) where
   pub settled-awaits : (n me : ℕ) (r : Rank) → (r .awaited ≡ 0 → ⊥) → settled anc n me r ≡ saying r silent
   settled-awaits n me r h = settled-not n me r (and-not-r (inPhase gathering r) (eqb (r .awaited) 0) (ne-eqb (r .awaited) 0 h))
 
-  pub settled-root : (n me : ℕ) (r : Rank) → r .phase ≡ gathering → r .awaited ≡ 0 → parentOf anc me r ≡ none → settled anc n me r ≡ deciding anc n me (r .word) r
+  pub settled-root : (n me : ℕ) (r : Rank) → r .phase ≡ gathering → r .awaited ≡ 0 → parentOf anc me r ≡ none → settled anc n me r ≡ deciding anc n me (closing (r .marks) (r .triple)) r
   unfolding settled inPhase
   settled-root n me r p a e = rw (eq-eqb (r .phase) gathering p, eq-eqb (r .awaited) 0 a, eq-eqb (parentOf anc me r) none e)
 
@@ -99,8 +97,8 @@ module _ (anc : ℕ → ℕ) where
   pub settle-awaits : (n me : ℕ) (r : Rank) (s : Said) → (r .awaited ≡ 0 → ⊥) → s ≡ saying r silent → s ≡ settled anc n me r
   settle-awaits n me r s h f = f ∙ sym (settled-awaits n me r h)
 
-  pub settle-root : (n me : ℕ) (r : Rank) (row : List ℕ) (d : Said) → FreshRow anc n me r row → r .phase ≡ gathering → r .awaited ≡ 0 → getD row me 0 ≡ none → d ≡ deciding anc n me (r .word) r → d ≡ settled anc n me r
-  settle-root n me r row d k p a z e = e ∙ sym (settled-root n me r p a (sym (row-parent n me r row k) ∙ z))
+  pub settle-root : (n me : ℕ) (r : Rank) (row : List ℕ) (x : Triple) (d : Said) → FreshRow anc n me r row → r .phase ≡ gathering → r .awaited ≡ 0 → getD row me 0 ≡ none → x ≡ closing (r .marks) (r .triple) → d ≡ deciding anc n me x r → d ≡ settled anc n me r
+  settle-root n me r row x d k p a z f e = e ∙ ap (λ (t : Triple). deciding anc n me t r) f ∙ sym (settled-root n me r p a (sym (row-parent n me r row k) ∙ z))
 
   pub settle-child : (n me : ℕ) (r : Rank) (row : List ℕ) (s : Send) → FreshRow anc n me r row → r .phase ≡ gathering → r .awaited ≡ 0 → (getD row me 0 ≡ none → ⊥) → s ≡ reports r (getD row me 0)
       → _≡_ {A = Said} (record { rank = becoming waiting r; send = s }) (settled anc n me r)
@@ -112,17 +110,17 @@ module _ (anc : ℕ → ℕ) where
   pub settle-returns : (n me : ℕ) (r : Rank) (row : List ℕ) (first : Send) (m : Moved) (t : Said) → FreshRow anc n me r row → t ≡ settled anc n me r
       → _≡_ {A = Acted} (record { rank = t .rank; row = row; first = first; second = t .send; moved = m }) (settling anc n me (saying r first) m)
   unfolding settling saying
-  settle-returns n me r row first m t k e = rw (e, k .table, settled-marks anc n me r)
+  settle-returns n me r row first m t k e = rw (e, k .table, settled-knows anc n me r .marks-are)
 
   -- ---- the rules
 
-  pub enter-returns : (n me : ℕ) (r : Rank) (w x : ℕ) (s : Send) (m : Moved) (a : Acted) → x ≡ combine (r .word) w → s ≡ silent → m ≡ nobody
-      → a ≡ settling anc n me (saying (record { phase = gathering; marks = r .marks; heard = r .heard; awaited = r .awaited; owed = r .owed; word = x; result = r .result }) s) m
+  pub enter-returns : (n me : ℕ) (r : Rank) (w : ℕ) (p x : Triple) (s : Send) (m : Moved) (a : Acted) → p ≡ proposal w r → x ≡ combine (r .triple) p → s ≡ silent → m ≡ nobody
+      → a ≡ settling anc n me (saying (record { phase = gathering; marks = r .marks; acknowledged = r .acknowledged; heard = r .heard; awaited = r .awaited; owed = r .owed; triple = x; result = r .result }) s) m
       → a ≡ entering anc n me w r
   unfolding entering becoming combining
-  enter-returns n me r w x s m a e f h g = g ∙ rw (e, f, h)
+  enter-returns n me r w p x s m a d e f h g = g ∙ rw (e, d, f, h)
 
-  pub up-decided : (n me : ℕ) (r : Rank) (q x o : ℕ) (s : Send) (m : Moved) (a : Acted) → r .phase ≡ decided → o ≡ only q → s ≡ tells (r .result) o → m ≡ nobody → a ≡ settling anc n me (saying r s) m
+  pub up-decided : (n me : ℕ) (r : Rank) (q : ℕ) (x : Triple) (o : ℕ) (s : Send) (m : Moved) (a : Acted) → r .phase ≡ decided → o ≡ only q → s ≡ tells (r .result) o → m ≡ nobody → a ≡ settling anc n me (saying r s) m
       → a ≡ takingUp anc n me q x r
   unfolding takingUp raised inPhase
   up-decided n me r q x o s m a p e f h g = g ∙ rw (eq-eqb (r .phase) decided p, f, e, h)
@@ -132,29 +130,29 @@ module _ (anc : ℕ → ℕ) where
   unfolding awaiting
   fewer-awaited n me r q h o w e eh eo ew = rw (ew, eo, e, eh) (minus-minus (children anc n (r .marks) me) (r .heard) q)
 
-  pub up-undecided : (n me : ℕ) (r : Rank) (q x h v o w y : ℕ) (s : Send) (m : Moved) (a : Acted) → r .awaited ≡ awaiting anc n me (r .marks) (r .heard) → (r .phase ≡ decided → ⊥)
-      → h ≡ add (r .heard) q → v ≡ add (r .owed) q → o ≡ only q → w ≡ minus (r .awaited) o → y ≡ combine (r .word) x → s ≡ silent → m ≡ nobody
-      → a ≡ settling anc n me (saying (record { phase = r .phase; marks = r .marks; heard = h; awaited = w; owed = v; word = y; result = r .result }) s) m
+  pub up-undecided : (n me : ℕ) (r : Rank) (q : ℕ) (x : Triple) (h v o w : ℕ) (y : Triple) (s : Send) (m : Moved) (a : Acted) → r .awaited ≡ awaiting anc n me (r .marks) (r .heard) → (r .phase ≡ decided → ⊥)
+      → h ≡ add (r .heard) q → v ≡ add (r .owed) q → o ≡ only q → w ≡ minus (r .awaited) o → y ≡ combine (r .triple) x → s ≡ silent → m ≡ nobody
+      → a ≡ settling anc n me (saying (record { phase = r .phase; marks = r .marks; acknowledged = r .acknowledged; heard = h; awaited = w; owed = v; triple = y; result = r .result }) s) m
       → a ≡ takingUp anc n me q x r
   unfolding takingUp raised noting inPhase owing combining hearing
   up-undecided n me r q x h v o w y s m a f p eh ev eo ew ey es em g =
       g ∙ rw (ne-eqb (r .phase) decided p, fewer-awaited n me r q h o w f eh eo ew, eh, ev, ey, es, em)
 
-  pub decide-returns : (n me : ℕ) (r : Rank) (row : List ℕ) (x o y c u t : ℕ) (s : Send) → FreshRow anc n me r row → r .awaited ≡ awaiting anc n me (r .marks) (r .heard)
+  pub decide-returns : (n me : ℕ) (r : Rank) (row : List ℕ) (x : Triple) (o y c u t : ℕ) (s : Send) → FreshRow anc n me r row → r .awaited ≡ awaiting anc n me (r .marks) (r .heard)
       → o ≡ minus (r .heard) (r .owed) → y ≡ meet o (setOf (λ p. eqb (getD row p 0) me) 64) → c ≡ union (r .awaited) y → u ≡ union c (r .owed) → t ≡ minus u (r .marks) → s ≡ tells x t
-      → _≡_ {A = Said} (record { rank = record { phase = decided; marks = r .marks; heard = r .heard; awaited = r .awaited; owed = r .owed; word = r .word; result = x }; send = s }) (deciding anc n me x r)
+      → _≡_ {A = Said} (record { rank = record { phase = decided; marks = r .marks; acknowledged = r .acknowledged; heard = r .heard; awaited = r .awaited; owed = r .owed; triple = r .triple; result = x }; send = s }) (deciding anc n me x r)
   unfolding deciding saying concluding childrenOf awaiting
   decide-returns n me r row x o y c u t s k a eo ey ec eu et es =
       let linked : ℕ = setOf (λ p. eqb (parent anc (r .marks) p) me) n in
-      let e : t ≡ minus (union (children anc n (r .marks) me) (r .owed)) (r .marks) = rw (et, eu, ec, a, linked-is n me o y r row k ey, eo, ← linked-children n me (r .marks)) (there-anyway linked (r .marks) (r .heard) (r .owed)) in
+      let e : t ≡ minus (union (children anc n (r .marks) me) (r .owed)) (r .marks) = rw (et, eu, ec, a, linked-is n me o y r row k ey, eo, ← linked-children anc n (r .marks) me) (there-anyway linked (r .marks) (r .heard) (r .owed)) in
       rw (es, e)
 
-  pub down-decides : (n me : ℕ) (r : Rank) (row : List ℕ) (x : ℕ) (d : Said) (s : Send) (m : Moved) → FreshRow anc n me r row → eqb (r .phase) gathering || eqb (r .phase) waiting ≡ true → d ≡ deciding anc n me x r → s ≡ silent → m ≡ nobody
+  pub down-decides : (n me : ℕ) (r : Rank) (row : List ℕ) (x : Triple) (d : Said) (s : Send) (m : Moved) → FreshRow anc n me r row → eqb (r .phase) gathering || eqb (r .phase) waiting ≡ true → d ≡ deciding anc n me x r → s ≡ silent → m ≡ nobody
       → _≡_ {A = Acted} (record { rank = d .rank; row = row; first = d .send; second = s; moved = m }) (takingDown anc n me x r)
   unfolding takingDown lowered inPhase done deciding saying concluding
   down-decides n me r row x d s m k t e f h = rw (t, e, f, h, k .table)
 
-  pub down-nothing : (n me : ℕ) (r : Rank) (row : List ℕ) (x : ℕ) (s s′ : Send) (m : Moved) → FreshRow anc n me r row → eqb (r .phase) gathering || eqb (r .phase) waiting ≡ false → s ≡ silent → s′ ≡ silent → m ≡ nobody
+  pub down-nothing : (n me : ℕ) (r : Rank) (row : List ℕ) (x : Triple) (s s′ : Send) (m : Moved) → FreshRow anc n me r row → eqb (r .phase) gathering || eqb (r .phase) waiting ≡ false → s ≡ silent → s′ ≡ silent → m ≡ nobody
       → _≡_ {A = Acted} (record { rank = r; row = row; first = s; second = s′; moved = m }) (takingDown anc n me x r)
   unfolding takingDown lowered inPhase done saying
   down-nothing n me r row x s s′ m k t e f h = rw (t, e, f, h, k .table)
@@ -168,7 +166,7 @@ module _ (anc : ℕ → ℕ) where
   pub view-returns : (n me : ℕ) (r : Rank) (m moved : ℕ) (row : List ℕ) (x y u v w : ℕ) → FreshRow anc n me (viewing anc n me m r) row → r .awaited ≡ awaiting anc n me (r .marks) (r .heard)
       → ((p : ℕ) → has m p ≡ false → has (r .marks) p ≡ false) → ((p : ℕ) → p < n → has m p ≡ false → has moved p ≡ false → parent anc m p ≡ parent anc (r .marks) p)
       → x ≡ minus (r .awaited) moved → y ≡ meet moved (setOf (λ p. eqb (getD row p 0) me) 64) → u ≡ union x y → v ≡ minus u (r .heard) → w ≡ minus v m
-      → _≡_ {A = Rank} (record { phase = r .phase; marks = m; heard = r .heard; awaited = w; owed = r .owed; word = r .word; result = r .result }) (viewing anc n me m r)
+      → _≡_ {A = Rank} (record { phase = r .phase; marks = m; acknowledged = r .acknowledged; heard = r .heard; awaited = w; owed = r .owed; triple = r .triple; result = r .result }) (viewing anc n me m r)
   unfolding viewing awaiting
   view-returns n me r m moved row x y u v w k a g s ex ey eu ev ew =
       rw (ew, ev, eu, ex, a, linked-is n me moved y (viewing anc n me m r) row k ey, children-after anc n (r .marks) m moved me g s (r .heard))
@@ -209,22 +207,22 @@ module _ (anc : ℕ → ℕ) where
   asked-decided n me q r o s p e f = rw (eq-eqb (r .phase) decided p, f, e)
 
   pub asked-waiting : (n me q : ℕ) (r : Rank) (row : List ℕ) (o : ℕ) (s : Send) → FreshRow anc n me r row → (r .phase ≡ decided → ⊥) → o ≡ add (r .owed) q → eqb (r .phase) waiting && eqb (getD row me 0) q ≡ true
-      → s ≡ reports (record { phase = r .phase; marks = r .marks; heard = r .heard; awaited = r .awaited; owed = o; word = r .word; result = r .result }) q
-      → _≡_ {A = Said} (record { rank = record { phase = r .phase; marks = r .marks; heard = r .heard; awaited = r .awaited; owed = o; word = r .word; result = r .result }; send = s }) (asked anc n me q r)
+      → s ≡ reports (record { phase = r .phase; marks = r .marks; acknowledged = r .acknowledged; heard = r .heard; awaited = r .awaited; owed = o; triple = r .triple; result = r .result }) q
+      → _≡_ {A = Said} (record { rank = record { phase = r .phase; marks = r .marks; acknowledged = r .acknowledged; heard = r .heard; awaited = r .awaited; owed = o; triple = r .triple; result = r .result }; send = s }) (asked anc n me q r)
   unfolding asked inPhase saying owing reports
   asked-waiting n me q r row o s k p e t f =
       let u : eqb (r .phase) waiting && eqb (parentOf anc me r) q ≡ true = ap (λ (x : ℕ). eqb (r .phase) waiting && eqb x q) (sym (row-parent n me r row k)) ∙ t in
       rw (ne-eqb (r .phase) decided p, u, f, e)
 
   pub asked-other : (n me q : ℕ) (r : Rank) (row : List ℕ) (o : ℕ) (s : Said) → FreshRow anc n me r row → (r .phase ≡ decided → ⊥) → o ≡ add (r .owed) q → eqb (r .phase) waiting && eqb (getD row me 0) q ≡ false
-      → s ≡ saying (record { phase = r .phase; marks = r .marks; heard = r .heard; awaited = r .awaited; owed = o; word = r .word; result = r .result }) silent → s ≡ asked anc n me q r
+      → s ≡ saying (record { phase = r .phase; marks = r .marks; acknowledged = r .acknowledged; heard = r .heard; awaited = r .awaited; owed = o; triple = r .triple; result = r .result }) silent → s ≡ asked anc n me q r
   unfolding asked inPhase owing
   asked-other n me q r row o s k p e t f =
       let u : eqb (r .phase) waiting && eqb (parentOf anc me r) q ≡ false = ap (λ (x : ℕ). eqb (r .phase) waiting && eqb x q) (sym (row-parent n me r row k)) ∙ t in
       f ∙ rw (ne-eqb (r .phase) decided p, u, e)
 
   pub row-asked : (n me q : ℕ) (r : Rank) (row : List ℕ) (s : Said) → FreshRow anc n me r row → s ≡ asked anc n me q r → FreshRow anc n me (s .rank) row
-  row-asked n me q r row s k e = row-said n me r row s k (ap (λ (x : Said). x .rank .marks) e ∙ asked-marks anc n me q r)
+  row-asked n me q r row s k e = row-said n me r row s k (ap (λ (x : Said). x .rank .marks) e ∙ asked-knows anc n me q r .marks-are)
 
   pub asked-awaits : (n me q : ℕ) (r : Rank) (s : Said) → Awaits n me r → s ≡ asked anc n me q r → Awaits n me (s .rank)
   unfolding saying owing
@@ -244,7 +242,7 @@ module _ (anc : ℕ → ℕ) where
       rw (e, q, ne-eqb (parentOf anc me r) none (λ x. h (q ∙ x)))
 
   pub orphan-gathers : (n me : ℕ) (r : Rank) (row : List ℕ) (c : ℕ) (s : Send) → FreshRow anc n me r row → getD row me 0 ≡ none → c ≡ children anc n (r .marks) me → s ≡ asks c
-      → _≡_ {A = Said} (record { rank = record { phase = gathering; marks = r .marks; heard = 0; awaited = c; owed = r .owed; word = r .word; result = r .result }; send = s }) (orphaned anc n me r)
+      → _≡_ {A = Said} (record { rank = record { phase = gathering; marks = r .marks; acknowledged = r .acknowledged; heard = 0; awaited = c; owed = r .owed; triple = r .triple; result = r .result }; send = s }) (orphaned anc n me r)
   unfolding orphaned regathering renewing saying becoming hearing awaiting childrenOf
   orphan-gathers n me r row c s k h e f =
       let z : parentOf anc me r ≡ none = sym (row-parent n me r row k) ∙ h in
@@ -286,7 +284,7 @@ module _ (anc : ℕ → ℕ) where
       rw (es, linked-is n me moved g v row k eg, a, e, children-gained anc n (r .marks) q me b)
 
   pub row-bereaved : (n me q : ℕ) (r v : Rank) (row : List ℕ) (s : Said) → FreshRow anc n me v row → s ≡ bereaved anc n me q r v → FreshRow anc n me (s .rank) row
-  row-bereaved n me q r v row s k e = row-said n me v row s k (ap (λ (x : Said). x .rank .marks) e ∙ bereaved-marks anc n me q r v)
+  row-bereaved n me q r v row s k e = row-said n me v row s k (ap (λ (x : Said). x .rank .marks) e ∙ bereaved-knows anc n me q r v .marks-are)
 
   pub bereaved-awaits : (n me q : ℕ) (r v : Rank) (s : Said) → Awaits n me v → s ≡ bereaved anc n me q r v → Awaits n me (s .rank)
   unfolding regathering renewing saying becoming hearing inheriting
@@ -303,3 +301,10 @@ module _ (anc : ℕ → ℕ) where
       → s ≡ bereaved anc n me q r v → a ≡ settling anc n me (saying (s .rank) (s .send)) (m .moved) → a ≡ noticing anc n me q r
   unfolding noticing saying
   notice-returns n me q r v b m s a e t em ev es ea = ea ∙ rw (sym e ∙ t, es, ev, mended-marks anc n (r .marks) q m em, mended-moved anc n (r .marks) q m em)
+
+  -- ---- acknowledge
+
+  pub acknowledge-returns : (n me : ℕ) (r : Rank) (row : List ℕ) (s s′ : Send) (m : Moved) → FreshRow anc n me r row → s ≡ silent → s′ ≡ silent → m ≡ nobody
+      → _≡_ {A = Acted} (record { rank = record { phase = r .phase; marks = r .marks; acknowledged = r .marks; heard = r .heard; awaited = r .awaited; owed = r .owed; triple = r .triple; result = r .result }; row = row; first = s; second = s′; moved = m }) (acknowledging anc n me r)
+  unfolding acknowledging done saying admitting
+  acknowledge-returns n me r row s s′ m k f g h = rw (f, g, h, k .table)

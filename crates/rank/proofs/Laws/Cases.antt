@@ -10,7 +10,9 @@ use Rattle.sets.specs.Sets.{none, has, only}
 use Rattle.sets.proofs.Laws.Bools.{and-i, and-l, and-r, or-l, or-r, or-cases, clash}
 use Rattle.rank.specs.declared.Rank.{Rank}
 use Rattle.rank.specs.declared.Said.{Said}
+use Rattle.rank.specs.declared.Triple.{Triple}
 use Rattle.rank.specs.Words.{gathering, waiting, decided}
+use Rattle.rank.specs.Triples.{closing}
 use Rattle.rank.specs.Records.{becoming, owing, parentOf, childrenOf}
 use Rattle.rank.specs.Sends.{silent, reports, tells}
 use Rattle.rank.specs.Rules.{inPhase, saying, deciding, settled, noting, raised, lowered, asked, renewing, regathering, orphaned, inheriting, bereaved}
@@ -23,20 +25,20 @@ by-test P false x y f g = g refl
 module _ (anc : ℕ → ℕ) (n me : ℕ) where
   pub settled-by : (P : Said → Type 0) (r : Rank)
       → ((r .phase ≡ gathering → r .awaited ≡ 0 → ⊥) → P (saying r silent))
-      → (r .phase ≡ gathering → r .awaited ≡ 0 → parentOf anc me r ≡ none → P (deciding anc n me (r .word) r))
+      → (r .phase ≡ gathering → r .awaited ≡ 0 → parentOf anc me r ≡ none → P (deciding anc n me (closing (r .marks) (r .triple)) r))
       → (r .phase ≡ gathering → r .awaited ≡ 0 → (parentOf anc me r ≡ none → ⊥) → P (saying (becoming waiting r) (reports r (parentOf anc me r))))
       → P (settled anc n me r)
   unfolding settled inPhase
   settled-by P r still root child =
-      by-test P (inPhase gathering r && eqb (r .awaited) 0) (cond (eqb (parentOf anc me r) none) (deciding anc n me (r .word) r) (saying (becoming waiting r) (reports r (parentOf anc me r)))) (saying r silent)
+      by-test P (inPhase gathering r && eqb (r .awaited) 0) (cond (eqb (parentOf anc me r) none) (deciding anc n me (closing (r .marks) (r .triple)) r) (saying (becoming waiting r) (reports r (parentOf anc me r)))) (saying r silent)
       (λ t.
       let p : r .phase ≡ gathering = eqb-true (r .phase) gathering (and-l (eqb (r .phase) gathering) (eqb (r .awaited) 0) t) in
       let a : r .awaited ≡ 0 = eqb-true (r .awaited) 0 (and-r (eqb (r .phase) gathering) (eqb (r .awaited) 0) t) in
-      by-test P (eqb (parentOf anc me r) none) (deciding anc n me (r .word) r) (saying (becoming waiting r) (reports r (parentOf anc me r)))
+      by-test P (eqb (parentOf anc me r) none) (deciding anc n me (closing (r .marks) (r .triple)) r) (saying (becoming waiting r) (reports r (parentOf anc me r)))
       (λ e. root p a (eqb-true (parentOf anc me r) none e)) (λ e. child p a (eqb-false (parentOf anc me r) none e)))
       (λ t. still (λ p a. clash (eqb (r .phase) gathering && eqb (r .awaited) 0) (and-i (eqb (r .phase) gathering) (eqb (r .awaited) 0) (eq-eqb (r .phase) gathering p) (eq-eqb (r .awaited) 0 a)) t))
 
-  pub raised-by : (P : Said → Type 0) (q x : ℕ) (r : Rank)
+  pub raised-by : (P : Said → Type 0) (q : ℕ) (x : Triple) (r : Rank)
       → (r .phase ≡ decided → P (saying r (tells (r .result) (only q))))
       → ((r .phase ≡ decided → ⊥) → P (saying (noting anc n me q x r) silent))
       → P (raised anc n me q x r)
@@ -45,7 +47,7 @@ module _ (anc : ℕ → ℕ) (n me : ℕ) where
       by-test P (inPhase decided r) (saying r (tells (r .result) (only q))) (saying (noting anc n me q x r) silent)
       (λ t. yes′ (eqb-true (r .phase) decided t)) (λ t. no′ (eqb-false (r .phase) decided t))
 
-  pub lowered-by : (P : Said → Type 0) (x : ℕ) (r : Rank)
+  pub lowered-by : (P : Said → Type 0) (x : Triple) (r : Rank)
       → ((r .phase ≡ gathering) ⊎ (r .phase ≡ waiting) → P (deciding anc n me x r))
       → ((r .phase ≡ gathering → ⊥) → (r .phase ≡ waiting → ⊥) → P (saying r silent))
       → P (lowered anc n me x r)

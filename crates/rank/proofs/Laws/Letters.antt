@@ -9,10 +9,10 @@ use Rattle.sets.proofs.Laws.Members.{has-zero}
 use Rattle.sets.proofs.Laws.Searches.{Smallest, length-listed, listed-none, listed-ascends, listed-first}
 use Rattle.rank.specs.declared.Send.{Send}
 use Rattle.rank.specs.declared.Message.{Message}
-use Rattle.rank.specs.Sends.{letter, letters}
+use Rattle.rank.specs.Sends.{silent, letter, letters}
 
 -- a message in fields
-pub letter-is : (me : ℕ) (s : Send) (q : ℕ) → _≡_ {A = Message} (letter me s q) (record { kind = s .kind; from = me; to = q; word = s .word })
+pub letter-is : (me : ℕ) (s : Send) (q : ℕ) → _≡_ {A = Message} (letter me s q) (record { kind = s .kind; from = me; to = q; triple = s .triple })
 unfolding letter
 letter-is me s q = refl
 
@@ -34,10 +34,14 @@ letters-ascend me s i j l h =
 
 -- a send to a set begins with the message to its smallest member, and goes on as the same send to the others; one to nobody is no message
 pub letters-first : (me : ℕ) (s : Send) (left q : ℕ) → Smallest (has left) 64 q
-    → letters me (record { kind = s .kind; word = s .word; to = left }) ≡ letter me s q ∷ letters me (record { kind = s .kind; word = s .word; to = minus left (only q) })
+    → letters me (record { kind = s .kind; triple = s .triple; to = left }) ≡ letter me s q ∷ letters me (record { kind = s .kind; triple = s .triple; to = minus left (only q) })
 unfolding letters letter
 letters-first me s left q m = ap (map (letter me s)) (listed-first left 64 q m)
 
 pub letters-none : (me : ℕ) (s : Send) → s .to ≡ 0 → letters me s ≡ []
 unfolding letters
 letters-none me s e = ap (λ (w : ℕ). map (letter me s) (listed (has w) 64)) e ∙ ap (map (letter me s)) (listed-none (has 0) 64 (λ k l. has-zero k))
+
+pub letters-silent : (me : ℕ) → letters me silent ≡ []
+unfolding silent
+letters-silent me = letters-none me silent refl

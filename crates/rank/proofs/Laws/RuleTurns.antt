@@ -16,10 +16,11 @@ use Rattle.tree.proofs.Laws.Parents.{has-parent, parent-stays, parent-below, ma
 use Rattle.tree.proofs.Laws.Children.{Child, child-o, child-i, child-new, child-not-gained}
 use Rattle.rank.specs.declared.Rank.{Rank}
 use Rattle.rank.specs.declared.Said.{Said}
+use Rattle.rank.specs.declared.Triple.{Triple}
 use Rattle.rank.specs.Words.{outside, gathering, waiting, up, down, ask}
-use Rattle.rank.specs.Records.{becoming, combining, concluding, owing, parentOf, childrenOf, hearing, viewing}
+use Rattle.rank.specs.Records.{becoming, combining, concluding, owing, admitting, proposal, parentOf, childrenOf, hearing, viewing}
 use Rattle.rank.specs.Sends.{silent, reports, tells, asks}
-use Rattle.rank.specs.Rules.{inPhase, saying, deciding, done, settling, entering, noting, raised, takingUp, takingDown, asked, takingAsk, renewing, regathering, inheriting, bereaved, noticing}
+use Rattle.rank.specs.Rules.{inPhase, saying, deciding, done, settling, entering, noting, raised, takingUp, takingDown, asked, takingAsk, renewing, regathering, inheriting, bereaved, noticing, acknowledging}
 use Rattle.rank.proofs.Facts.{RankInOrder}
 use Rattle.rank.proofs.Turn.{Says, NoParent, Leads, Polls, Turn}
 use Rattle.rank.proofs.Overhearing.{overheard, overhearing}
@@ -51,7 +52,7 @@ module _ (anc : ℕ → ℕ) (tree : Ancestry anc) (n me : ℕ) (small : n ≤ 6
   enter-turn w r o e = settling-turn anc n me 0 0 r (saying v silent) nobody (omega arith) (turn, o .to-settle .awaits)
     where
       v : Rank
-      v = becoming gathering (combining w r)
+      v = becoming gathering (combining (proposal w r) r)
 
       turn : Turn anc n me 0 0 r v silent silent
       turn = record {
@@ -75,7 +76,7 @@ module _ (anc : ℕ → ℕ) (tree : Ancestry anc) (n me : ℕ) (small : n ≤ 6
         asked-reports = λ x. absurd (omega arith);
       }
 
-  pub up-turn : (q x : ℕ) (r : Rank) → RankInOrder anc n me r → ActedTurn anc n me up q r (takingUp anc n me q x r)
+  pub up-turn : (q : ℕ) (x : Triple) (r : Rank) → RankInOrder anc n me r → ActedTurn anc n me up q r (takingUp anc n me q x r)
   unfolding takingUp noting saying owing combining hearing tells
   up-turn q x r o =
       settling-turn anc n me up q r (raised anc n me q x r) nobody (omega arith)
@@ -98,7 +99,7 @@ module _ (anc : ℕ → ℕ) (tree : Ancestry anc) (n me : ℕ) (small : n ≤ 6
       v : Rank
       v = noting anc n me q x r
 
-  pub down-turn : (q x : ℕ) (r : Rank) → ActedTurn anc n me down q r (takingDown anc n me x r)
+  pub down-turn : (q : ℕ) (x : Triple) (r : Rank) → ActedTurn anc n me down q r (takingDown anc n me x r)
   unfolding takingDown done saying deciding concluding childrenOf tells
   down-turn q x r =
       lowered-by anc n me (λ (s : Said). Turn anc n me down q r (s .rank) (s .send) silent) x r (λ e. turn)
@@ -255,6 +256,13 @@ module _ (anc : ℕ → ℕ) (tree : Ancestry anc) (n me : ℕ) (small : n ≤ 6
       go : (b : Bool) → ActedTurn anc n me 0 0 r (cond b (done anc n me (saying r silent) nobody) (settling anc n me (bereaved anc n me q r v) (moved anc n (r .marks) q)))
       go true = stays anc n me 0 0 r r silent refl (λ k h. h) (λ y h. inl h) (λ y h. h) (λ y h. h) (silent-fits r) (λ e z c k. inl k) (λ y. inl refl) (takes-none anc me 0 r r silent)
       go false = settling-turn anc n me 0 0 r (bereaved anc n me q r v) (moved anc n (r .marks) q) (omega arith) (bereaved-part q r o l d)
+
+  pub acknowledge-turn : (r : Rank) → ActedTurn anc n me 0 0 r (acknowledging anc n me r)
+  unfolding acknowledging done saying admitting
+  acknowledge-turn r = stays anc n me 0 0 r t silent refl (λ k h. h) (λ y h. inl h) (λ y h. h) (λ y h. h) (silent-fits t) (λ e z c k. inl k) (λ y. inl refl) (takes-none anc me 0 r t silent)
+    where
+      t : Rank
+      t = admitting (r .marks) r
 
   pub overhear-turn : (q : ℕ) (r : Rank) → RankInOrder anc n me r → q < me → has (r .marks) q ≡ false → ActedTurn anc n me 0 0 r (overhearing anc n me q r)
   unfolding overhearing saying viewing parentOf reports

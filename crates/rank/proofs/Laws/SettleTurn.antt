@@ -14,8 +14,10 @@ use Rattle.tree.proofs.Laws.Parents.{no-parent, no-parent-all}
 use Rattle.rank.specs.declared.Rank.{Rank}
 use Rattle.rank.specs.declared.Send.{Send}
 use Rattle.rank.specs.declared.Said.{Said}
+use Rattle.rank.specs.declared.Triple.{Triple}
 use Rattle.rank.specs.declared.Acted.{Acted}
 use Rattle.rank.specs.Words.{gathering, waiting, decided, up, down, ask}
+use Rattle.rank.specs.Triples.{closing}
 use Rattle.rank.specs.Records.{becoming, concluding, parentOf, childrenOf, awaiting}
 use Rattle.rank.specs.Sends.{silent, reports, tells, asks}
 use Rattle.rank.specs.Rules.{saying, deciding, settled, settling}
@@ -66,7 +68,7 @@ pub reports-fits : (r s : Rank) (q : ℕ) → r .phase ≡ waiting → Fits r (r
 unfolding reports
 reports-fits r s q p = (λ e. p, λ e. absurd (omega arith))
 
-pub tells-fits : (r : Rank) (x to : ℕ) → r .phase ≡ decided → Fits r (tells x to)
+pub tells-fits : (r : Rank) (x : Triple) (to : ℕ) → r .phase ≡ decided → Fits r (tells x to)
 unfolding tells
 tells-fits r x to p = (λ e. absurd (omega arith), λ e. p)
 
@@ -133,7 +135,7 @@ module _ (anc : ℕ → ℕ) (n me : ℕ) where
     first-not-down x e h = let d : r′ .phase ≡ decided = t .down-decided x (inl (e, h)) in omega arith
 
     -- a rank without a parent decides
-    decides-turn : parent anc (r′ .marks) me ≡ none → Turn anc n me kind q r (deciding anc n me (r′ .word) r′ .rank) f (deciding anc n me (r′ .word) r′ .send)
+    decides-turn : parent anc (r′ .marks) me ≡ none → Turn anc n me kind q r (deciding anc n me (closing (r′ .marks) (r′ .triple)) r′ .rank) f (deciding anc n me (closing (r′ .marks) (r′ .triple)) r′ .send)
     unfolding deciding saying concluding childrenOf tells
     decides-turn z = record {
       marks-grow = t .marks-grow;
@@ -150,9 +152,9 @@ module _ (anc : ℕ → ℕ) (n me : ℕ) where
       down-decided = λ x s. refl;
       reports-to = λ e. absurd (omega arith);
       tells-owed = λ d e x o m. inr (refl, told r′ x o m);
-      takes-up = took-up (deciding anc n me (r′ .word) r′ .send);
+      takes-up = took-up (deciding anc n me (closing (r′ .marks) (r′ .triple)) r′ .send);
       takes-down = λ e. absurd (t .takes-down e .0 p);
-      takes-ask = took-ask (deciding anc n me (r′ .word) r′ .send);
+      takes-ask = took-ask (deciding anc n me (closing (r′ .marks) (r′ .triple)) r′ .send);
       asked-reports = λ e x. absurd (omega arith);
     }
 

@@ -7,7 +7,7 @@ use native.Mathlib.Omega.{arith}
 use lib.Dec.{eqb, leb}
 use borrow.Author.Tests.{eqb-true, eq-eqb, ne-eqb, leb-false, le-leb, lt-leb}
 use Rattle.sets.specs.Sets.{has, only, minus, below}
-use Rattle.sets.proofs.Laws.Bools.{passes-or-fails, passes, and-i, clash, fails, or-l, or-none, or-neither, not-i}
+use Rattle.sets.proofs.Laws.Bools.{passes-or-fails, passes, and-i, clash, fails, or-l, or-r, or-cases, or-none, or-neither, not-i}
 use Rattle.sets.proofs.Laws.Members.{has-high}
 use Rattle.rank.specs.declared.Rank.{Rank}
 use Rattle.rank.specs.declared.Message.{Message}
@@ -25,7 +25,7 @@ nobody w a h l = sym (has-high w 64 a h l)
 pub names-one : (ev : Event) → wrongKind ev ≡ false → namesPlace (ev .kind) ≡ false → namesRank (ev .kind) ≡ true
 unfolding wrongKind
 names-one ev k p =
-    passes (namesRank (ev .kind)) (λ h. clash (not (namesRank (ev .kind) || namesPlace (ev .kind)) || (namesPlace (ev .kind) || eqb (ev .kind) 3) && not (eqb (ev .b) 0)) (or-l (not (namesRank (ev .kind) || namesPlace (ev .kind))) ((namesPlace (ev .kind) || eqb (ev .kind) 3) && not (eqb (ev .b) 0)) (not-i (namesRank (ev .kind) || namesPlace (ev .kind)) (or-none (namesRank (ev .kind)) (namesPlace (ev .kind)) h p))) k)
+    passes (namesRank (ev .kind)) (λ h. clash (not (namesRank (ev .kind) || namesPlace (ev .kind)) || (namesPlace (ev .kind) || eqb (ev .kind) 3 || eqb (ev .kind) 6) && not (eqb (ev .b) 0)) (or-l (not (namesRank (ev .kind) || namesPlace (ev .kind))) ((namesPlace (ev .kind) || eqb (ev .kind) 3 || eqb (ev .kind) 6) && not (eqb (ev .b) 0)) (not-i (namesRank (ev .kind) || namesPlace (ev .kind)) (or-none (namesRank (ev .kind)) (namesPlace (ev .kind)) h p))) k)
 
 -- a rank that is named is below n
 pub rank-below : (t : Bool) (n : ℕ) (ev : Event) → t ≡ wrongRank n ev → t ≡ false → namesRank (ev .kind) ≡ true → ev .a < n
@@ -37,15 +37,22 @@ pub told-below : (t : Bool) (n : ℕ) (ev : Event) → t ≡ wrongRank n ev → 
 unfolding wrongRank
 told-below t n ev e f k = leb-false n (ev .b) (rw (eq-eqb (ev .kind) 4 k) at (or-neither (namesRank (ev .kind) && leb n (ev .a)) (eqb (ev .kind) 4 && leb n (ev .b)) (sym e ∙ f) .1))
 
-crash-kind : (kind : ℕ) → (kind ≡ 1) ⊎ ((kind ≡ 3) ⊎ (kind ≡ 4)) → (kind ≡ 1 → ⊥) → (kind ≡ 4 → ⊥) → kind ≡ 3
-crash-kind kind (inl e) x y = absurd (x e)
+crash-kind : (kind : ℕ) → (kind ≡ 1) ⊎ ((kind ≡ 3) ⊎ ((kind ≡ 4) ⊎ (kind ≡ 6))) → eqb kind 1 || eqb kind 6 ≡ false → (kind ≡ 4 → ⊥) → kind ≡ 3
+crash-kind kind (inl e) x y = absurd (clash (eqb kind 1) (eq-eqb kind 1 e) (or-neither (eqb kind 1) (eqb kind 6) x .0))
 crash-kind kind (inr (inl e)) x y = e
-crash-kind kind (inr (inr e)) x y = absurd (y e)
+crash-kind kind (inr (inr (inl e))) x y = absurd (y e)
+crash-kind kind (inr (inr (inr e))) x y = absurd (clash (eqb kind 6) (eq-eqb kind 6 e) (or-neither (eqb kind 1) (eqb kind 6) x .1))
 
-not-loss : (kind : ℕ) → (kind ≡ 1) ⊎ ((kind ≡ 3) ⊎ (kind ≡ 4)) → eqb kind 5 ≡ false
+not-loss : (kind : ℕ) → (kind ≡ 1) ⊎ ((kind ≡ 3) ⊎ ((kind ≡ 4) ⊎ (kind ≡ 6))) → eqb kind 5 ≡ false
 not-loss kind (inl e) = rw e
 not-loss kind (inr (inl e)) = rw e
-not-loss kind (inr (inr e)) = rw e
+not-loss kind (inr (inr (inl e))) = rw e
+not-loss kind (inr (inr (inr e))) = rw e
+
+-- who enters or acknowledges is not told of anyone and does not crash
+neither-other : (kind : ℕ) → (eqb kind 1 ≡ true) ⊎ (eqb kind 6 ≡ true) → (eqb kind 4 ≡ false) × (eqb kind 3 ≡ false)
+neither-other kind (inl e) = (rw (eqb-true kind 1 e), rw (eqb-true kind 1 e))
+neither-other kind (inr e) = (rw (eqb-true kind 6 e), rw (eqb-true kind 6 e))
 
 module _ (n dead count : ℕ) (ev : Event) (r : Rank) (m : Message) where
   pub refusal-3 : (t : Bool) → t ≡ wrongKind ev → t ≡ true → 3 ≡ refusal n dead count ev r m
@@ -56,12 +63,12 @@ module _ (n dead count : ℕ) (ev : Event) (r : Rank) (m : Message) where
 
   place-refusal : wrongKind ev ≡ false → namesPlace (ev .kind) ≡ true → refusal n dead count ev r m ≡ cond (leb count (ev .a)) 5 (cond (bothLive dead ev m) 10 0)
   unfolding refusal lateRefusal wrongRank noMessage isDead notOutside isLiving isLast
-  place-refusal k p = rw (k, no-rank, other 4 (λ e. inr (inr e)), p, other 1 (λ e. inl e), other 3 (λ e. inr (inl e)))
+  place-refusal k p = rw (k, no-rank, other 4 (λ e. inr (inr (inl e))), p, other 1 (λ e. inl e), other 6 (λ e. inr (inr (inr e))), other 3 (λ e. inr (inl e)))
     where
       no-rank : namesRank (ev .kind) ≡ false
       no-rank = fails (namesRank (ev .kind)) (λ t. clash (namesPlace (ev .kind)) p (names-a-rank (ev .kind) (rank-kinds (ev .kind) t) .1))
 
-      other : (j : ℕ) → (ev .kind ≡ j → (ev .kind ≡ 1) ⊎ ((ev .kind ≡ 3) ⊎ (ev .kind ≡ 4))) → eqb (ev .kind) j ≡ false
+      other : (j : ℕ) → (ev .kind ≡ j → (ev .kind ≡ 1) ⊎ ((ev .kind ≡ 3) ⊎ ((ev .kind ≡ 4) ⊎ (ev .kind ≡ 6)))) → eqb (ev .kind) j ≡ false
       other j f = ne-eqb (ev .kind) j (λ e. clash (namesPlace (ev .kind)) p (names-a-rank (ev .kind) (f e) .1))
 
   pub place-5 : wrongKind ev ≡ false → namesPlace (ev .kind) ≡ true → count ≤ ev .a → 5 ≡ refusal n dead count ev r m
@@ -89,10 +96,12 @@ module _ (n dead count : ℕ) (ev : Event) (r : Rank) (m : Message) where
   pub rank-6 : (t u : Bool) → wrongKind ev ≡ false → namesRank (ev .kind) ≡ true → t ≡ wrongRank n ev → t ≡ false → u ≡ has dead (ev .a) → u ≡ true → 6 ≡ refusal n dead count ev r m
   rank-6 t u k p e f g h = rw (rank-refusal k p, sym e ∙ f, sym g ∙ h)
 
-  pub rank-enter : (t u : Bool) (z : ℕ) → wrongKind ev ≡ false → namesRank (ev .kind) ≡ true → t ≡ wrongRank n ev → t ≡ false → u ≡ has dead (ev .a) → u ≡ false
-      → ev .kind ≡ 1 → z ≡ cond (not (eqb (r .phase) outside)) 7 0 → z ≡ refusal n dead count ev r m
+  pub rank-outside : (t u : Bool) (z : ℕ) → wrongKind ev ≡ false → namesRank (ev .kind) ≡ true → t ≡ wrongRank n ev → t ≡ false → u ≡ has dead (ev .a) → u ≡ false
+      → eqb (ev .kind) 1 || eqb (ev .kind) 6 ≡ true → z ≡ cond (not (eqb (r .phase) outside)) 7 0 → z ≡ refusal n dead count ev r m
   unfolding notOutside isLiving isLast
-  rank-enter t u z k p e f g h j y = rw (rank-refusal k p, sym e ∙ f, sym g ∙ h, j) y
+  rank-outside t u z k p e f g h j y =
+      let others = neither-other (ev .kind) (or-cases (eqb (ev .kind) 1) (eqb (ev .kind) 6) j) in
+      rw (rank-refusal k p, sym e ∙ f, sym g ∙ h, j, others .0, others .1) y
 
   pub rank-notice : (t u : Bool) (z : ℕ) → wrongKind ev ≡ false → namesRank (ev .kind) ≡ true → t ≡ wrongRank n ev → t ≡ false → u ≡ has dead (ev .a) → u ≡ false
       → ev .kind ≡ 4 → z ≡ cond (not (has dead (ev .b))) 8 0 → z ≡ refusal n dead count ev r m
@@ -100,7 +109,7 @@ module _ (n dead count : ℕ) (ev : Event) (r : Rank) (m : Message) where
   rank-notice t u z k p e f g h j y = rw (rank-refusal k p, sym e ∙ f, sym g ∙ h, j) y
 
   pub rank-crash : (t u : Bool) (z : ℕ) → wrongKind ev ≡ false → namesRank (ev .kind) ≡ true → t ≡ wrongRank n ev → t ≡ false → u ≡ has dead (ev .a) → u ≡ false
-      → (ev .kind ≡ 1 → ⊥) → (ev .kind ≡ 4 → ⊥) → z ≡ cond (eqb (minus (below n) dead) (only (ev .a))) 9 0 → z ≡ refusal n dead count ev r m
+      → eqb (ev .kind) 1 || eqb (ev .kind) 6 ≡ false → (ev .kind ≡ 4 → ⊥) → z ≡ cond (eqb (minus (below n) dead) (only (ev .a))) 9 0 → z ≡ refusal n dead count ev r m
   unfolding notOutside isLiving isLast
   rank-crash t u z k p e f g h i j y = rw (rank-refusal k p, sym e ∙ f, sym g ∙ h, crash-kind (ev .kind) (rank-kinds (ev .kind) p) i j) y
 
@@ -158,12 +167,18 @@ clean-notice n dead c ev r m x k = told-below (wrongRank n ev) n ev refl (x .ran
 pub notice-names : (n dead count : ℕ) (ev : Event) (r : Rank) (m : Message) → refusal n dead count ev r m ≡ 0 → ev .kind ≡ 4 → ev .b < n
 notice-names n dead count ev r m e = clean-notice n dead count ev r m (refusal-none n dead count ev r m e)
 
--- who enters is outside
-pub clean-outside : (n dead c : ℕ) (ev : Event) (r : Rank) (m : Message) → Clean n dead c ev r m → ev .kind ≡ 1 → r .phase ≡ outside
+-- who enters is outside, and so is who acknowledges
+stands-outside : (n dead c : ℕ) (ev : Event) (r : Rank) (m : Message) → Clean n dead c ev r m → eqb (ev .kind) 1 || eqb (ev .kind) 6 ≡ true → r .phase ≡ outside
 unfolding notOutside
-clean-outside n dead c ev r m x k =
+stands-outside n dead c ev r m x k =
     eqb-true (r .phase) outside (passes (eqb (r .phase) outside)
-    (λ h. clash (eqb (ev .kind) 1 && not (eqb (r .phase) outside)) (and-i (eqb (ev .kind) 1) (not (eqb (r .phase) outside)) (eq-eqb (ev .kind) 1 k) (not-i (eqb (r .phase) outside) h)) (x .is-outside)))
+    (λ h. clash ((eqb (ev .kind) 1 || eqb (ev .kind) 6) && not (eqb (r .phase) outside)) (and-i (eqb (ev .kind) 1 || eqb (ev .kind) 6) (not (eqb (r .phase) outside)) k (not-i (eqb (r .phase) outside) h)) (x .is-outside)))
+
+pub clean-outside : (n dead c : ℕ) (ev : Event) (r : Rank) (m : Message) → Clean n dead c ev r m → ev .kind ≡ 1 → r .phase ≡ outside
+clean-outside n dead c ev r m x k = stands-outside n dead c ev r m x (or-l (eqb (ev .kind) 1) (eqb (ev .kind) 6) (eq-eqb (ev .kind) 1 k))
+
+pub clean-acknowledge : (n dead c : ℕ) (ev : Event) (r : Rank) (m : Message) → Clean n dead c ev r m → ev .kind ≡ 6 → r .phase ≡ outside
+clean-acknowledge n dead c ev r m x k = stands-outside n dead c ev r m x (or-r (eqb (ev .kind) 1) (eqb (ev .kind) 6) (eq-eqb (ev .kind) 6 k))
 
 -- who is told of is dead
 pub clean-told : (n dead c : ℕ) (ev : Event) (r : Rank) (m : Message) → Clean n dead c ev r m → ev .kind ≡ 4 → has dead (ev .b) ≡ true

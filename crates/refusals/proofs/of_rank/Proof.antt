@@ -2,7 +2,7 @@
 use Prim.Native.Nat.{_<_}
 use native.Mathlib.Omega.{arith}
 use borrow.Author.Needs.{needs}
-use Rattle.refusals.proofs.Laws.Refusing.{rank-below, told-below, rank-4, rank-6, rank-enter, rank-notice, rank-crash}
+use Rattle.refusals.proofs.Laws.Refusing.{rank-below, told-below, rank-4, rank-6, rank-outside, rank-notice, rank-crash}
 use Rattle.refusals.proofs.of_rank.Statement.{statement}
 use Rattle.refusals.proofs.of_rank.Tie as tie
 
@@ -13,9 +13,9 @@ named c =
     omega arith
 
 -- the rank that is told of
-told : (c : tie.Then4) → c .before .before .before .before .before .before .before .before .before .args .ev .b < 64
+told : (c : tie.Then4) → c .before .before .before .before .before .before .before .before .before .before .args .ev .b < 64
 told c =
-    let l : c .before .before .before .before .before .before .before .before .before .args .ev .b < c .before .before .before .before .before .before .before .before .before .args .n = search told-below in
+    let l : c .before .before .before .before .before .before .before .before .before .before .args .ev .b < c .before .before .before .before .before .before .before .before .before .before .args .n = search told-below in
     omega arith
 
 wrong-rank-requires : tie.Need-wrong-rank-requires
@@ -33,11 +33,11 @@ member-requires c κs = named (c .before)
 returns-2 : tie.Need-returns-2
 returns-2 c count m = search rank-6
 
-of-enter-requires : tie.Need-of-enter-requires
-of-enter-requires c κs = search needs
+of-outside-requires : tie.Need-of-outside-requires
+of-outside-requires c κs = search needs
 
 returns-3 : tie.Need-returns-3
-returns-3 c count m = search rank-enter
+returns-3 c count m = search rank-outside
 
 cast-of-notice : tie.Need-cast-of-notice
 cast-of-notice c = omega (arith, told (c .before))
@@ -49,10 +49,10 @@ returns-4 : tie.Need-returns-4
 returns-4 c count m = search rank-notice
 
 cast-of-crash : tie.Need-cast-of-crash
-cast-of-crash c = omega (arith, named (c .before .before .before .before .before .before .before .before))
+cast-of-crash c = omega (arith, named (c .before .before .before .before .before .before .before .before .before))
 
 of-crash-requires : tie.Need-of-crash-requires
-of-crash-requires c κs = (search needs, named (c .before .before .before .before .before .before .before .before))
+of-crash-requires c κs = (search needs, named (c .before .before .before .before .before .before .before .before .before))
 
 returns-5 : tie.Need-returns-5
 returns-5 c count m = search rank-crash
@@ -66,7 +66,7 @@ of-rank-spec =
     cast-member
     member-requires
     returns-2
-    of-enter-requires
+    of-outside-requires
     returns-3
     cast-of-notice
     of-notice-requires

@@ -15,7 +15,7 @@ names-place-requires-2 c κs = search needs
 
 returns : tie.Need-returns
 unfolding wrongKind
-returns c = rw (c .before .before .before .before .names-rank .ensures, c .before .before .before .names-place .ensures, c .before .before .names-place2 .ensures)
+returns c = rw (c .before .before .before .before .before .names-rank .ensures, c .before .before .before .before .names-place .ensures, c .before .before .before .names-place2 .ensures)
 
 pub wrong-kind-spec : {M : Type 1} → statement M
 wrong-kind-spec =

@@ -4,6 +4,9 @@ use Rattle.rank.proofs.Laws.Acting.{enter-returns}
 use Rattle.rank.proofs.Rank.enter.Statement.{statement}
 use Rattle.rank.proofs.Rank.enter.Tie as tie
 
+propose-requires : tie.Need-propose-requires
+propose-requires c κs = search needs
+
 combine-requires : tie.Need-combine-requires
 combine-requires c κs = search needs
 
@@ -21,4 +24,11 @@ returns c = search enter-returns
 
 pub enter-spec : {M : Type 1} → statement M
 enter-spec =
-    tie.close (tie.spec combine-requires silent-requires nobody-requires settle-requires returns)
+    tie.close
+    (tie.spec
+    propose-requires
+    combine-requires
+    silent-requires
+    nobody-requires
+    settle-requires
+    returns)

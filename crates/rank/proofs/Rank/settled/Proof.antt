@@ -20,6 +20,9 @@ returns-2 c = search settle-awaits
 array-read-parent : tie.Need-array-read-parent
 array-read-parent c = search needs
 
+close-requires : tie.Need-close-requires
+close-requires c κs = search needs
+
 decide-requires : tie.Need-decide-requires
 decide-requires c κs = search needs
 
@@ -42,6 +45,7 @@ settled-spec =
     still-requires-2
     returns-2
     array-read-parent
+    close-requires
     decide-requires
     returns-3
     report-requires

@@ -46,7 +46,7 @@ settle-requires-2 c κs = (search needs, search fewer-awaited)
 returns-2 : tie.Need-returns-2
 returns-2 c =
     let silent = c .before .before in
-    let fewer = silent .before .before in
+    let fewer = silent .before .before .before in
     let owes = fewer .before .before in
     let hears = owes .before in
     let undecided = hears .before in

@@ -34,6 +34,9 @@ down-requires c κs = (search needs, search awaited-is)
 ask-requires : tie.Need-ask-requires
 ask-requires c κs = (search needs, (search awaited-is, search needs))
 
+acknowledge-requires : tie.Need-acknowledge-requires
+acknowledge-requires c κs = search needs
+
 notice-requires : tie.Need-notice-requires
 notice-requires c κs = (search needs, (search awaited-is, search needs))
 
@@ -57,6 +60,7 @@ act-spec =
     up-requires
     down-requires
     ask-requires
+    acknowledge-requires
     notice-requires
     show-requires
     returns-4)

@@ -1,10 +1,10 @@
--- `put_result` meets its contract: one test. Assumes nothing.
+-- `put_verdict` meets its contract: one test. Assumes nothing.
 use native.Mathlib.Omega.{arith}
 use borrow.Author.Needs.{needs}
 use Rattle.text.proofs.Laws.Writing.{wrote-room}
-use Rattle.lines.proofs.Laws.Lines.{result-decided, result-dash}
-use Rattle.lines.proofs.put_result.Statement.{statement}
-use Rattle.lines.proofs.put_result.Tie as tie
+use Rattle.lines.proofs.Laws.Lines.{verdict-decided, verdict-dash}
+use Rattle.lines.proofs.put_verdict.Statement.{statement}
+use Rattle.lines.proofs.put_verdict.Tie as tie
 
 put-field-requires : tie.Need-put-field-requires
 put-field-requires c κs = search needs
@@ -13,7 +13,7 @@ same-length : tie.Need-same-length
 same-length c = search needs
 
 returns : tie.Need-returns
-returns c = search result-decided
+returns c = search verdict-decided
 
 put-byte-requires : tie.Need-put-byte-requires
 put-byte-requires c κs = search needs
@@ -25,10 +25,10 @@ same-length-2 : tie.Need-same-length-2
 same-length-2 c = search needs
 
 returns-2 : tie.Need-returns-2
-returns-2 c = search result-dash
+returns-2 c = search verdict-dash
 
-pub put-result-spec : {M : Type 1} → statement M
-put-result-spec =
+pub put-verdict-spec : {M : Type 1} → statement M
+put-verdict-spec =
     tie.close
     (tie.spec
     put-field-requires
