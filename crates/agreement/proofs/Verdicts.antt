@@ -7,14 +7,13 @@ use mathlib.Core.Logic.{_⊎_, inl, inr, ⊎-elim}
 use Prim.Native.Nat.{ℕ, zero, suc, _<_}
 use native.Mathlib.Omega.{arith}
 use Rattle.sets.specs.Sets.{has}
-use Rattle.sets.proofs.Laws.Bools.{clash, passes-or-fails, eq-or-ne, or-l, or-r, or-cases, and-not-l, and-not-r}
+use Rattle.sets.proofs.Laws.Bools.{clash, eq-or-ne, or-l, or-r, or-cases, and-not-l, and-not-r}
 use Rattle.tree.specs.Tree.{flat}
 use Rattle.rank.specs.declared.Triple.{Triple}
-use Rattle.rank.specs.Triples.{freshTriple, combine, closing, code}
+use Rattle.rank.specs.Triples.{freshTriple, combine, code}
 use Rattle.rank.specs.Records.{proposal}
 use Rattle.rank.proofs.Facts.{TripleWithin}
 use Rattle.rank.proofs.Laws.Triples.{Missing, missing-code, code-misses, fresh-known, fresh-acknowledged, combine-known, combine-acknowledged, closing-known, closing-acknowledged, fresh-within, combine-within, closing-within, proposal-within}
-use Rattle.events.specs.declared.Event.{Event}
 use Rattle.state.specs.declared.State.{State}
 use Rattle.state.specs.States.{rankAt}
 use Rattle.group.specs.Reaching.{Reaches, begun, next}

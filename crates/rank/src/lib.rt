@@ -5,14 +5,14 @@ ghost use mathlib.Core.Path.{_≡_};
 ghost use Prim.Native.Nat.{ℕ, _<_, _≤_};
 ghost use mathlib.Core.Bool.{_&&_, false};
 ghost use lib.Dec.{eqb};
-ghost use Rattle.sets.specs.Sets.{has, none};
-ghost use Rattle.tree.specs.Tree.{flat, parent};
-ghost use Rattle.tree.specs.Calls.{mended};
+ghost use lib.ListN.{getD};
+ghost use Rattle.sets.specs.Sets.{has, meet, none, setOf};
+ghost use Rattle.tree.specs.Tree.{children, flat, parent};
 ghost use Rattle.rank.specs.Words.{gathering, waiting};
 ghost use Rattle.rank.specs.Triples.{closing, code, combine, freshTriple, zeroTriple};
 ghost use Rattle.rank.specs.Records.{awaiting, childrenOf, freshRank, parentOf, proposal, viewing};
 ghost use Rattle.rank.specs.Sends.{asks, reports, silent, tells};
-ghost use Rattle.rank.specs.Rules.{acknowledging, asked, bereaved, deciding, entering, inPhase, inheriting, noticing, orphaned, saying, settled, settling, takingAsk, takingDown, takingUp};
+ghost use Rattle.rank.specs.Rules.{acknowledging, asked, bereaved, deciding, entering, inPhase, noticing, orphaned, saying, settled, settling, takingAsk, takingDown, takingUp};
 ghost use Rattle.rank.specs.Between.{FreshRow};
 
 // Phases.
@@ -338,17 +338,18 @@ impl Rank {
         }
     }
 
-    // A new view, with its table, and who moved by it: awaited are those who stayed and those who came, if not heard and not marked.
-    fn view(mut self, n: u8, me: u8, marks: u64, row: [u8; 64], moved: u64) -> Rank
+    // A new view, with its table, who moved by it, and who of these came here: awaited are those who stayed and those who came, if not heard and
+    // not marked.
+    fn view(mut self, n: u8, me: u8, marks: u64, row: [u8; 64], moved: u64, gained: u64) -> Rank
         requires { ⌜ FreshRow flat n me (viewing flat n me marks self) row ⌝ }
         requires { ⌜ self .awaited ≡ awaiting flat n me (self .marks) (self .heard) ⌝ }
         requires { ⌜ ((p : ℕ) → has marks p ≡ false → has (self .marks) p ≡ false) ⌝ }
         requires { ⌜ ((p : ℕ) → p < n → has marks p ≡ false → has moved p ≡ false → parent flat marks p ≡ parent flat (self .marks) p) ⌝ }
+        requires { ⌜ gained ≡ meet moved (setOf (λ p. eqb (getD row p 0) me) 64) ⌝ }
         ensures { λ r. ⌜ r ≡ viewing flat n me marks self ⌝ }
     {
         let stayed = sets::minus(self.awaited, moved);
-        let came = tree::pointing(row, moved, me);
-        let unheard = sets::minus(sets::union(stayed, came), self.heard);
+        let unheard = sets::minus(sets::union(stayed, gained), self.heard);
         self.marks = marks;
         self.awaited = sets::minus(unheard, marks);
         self
@@ -364,7 +365,8 @@ impl Rank {
         let m = tree::mend_below(n, self.marks, row, q);
         let table = m.table;
         let moved = m.moved;
-        let seen = self.view(n, me, m.marks, table, moved.ranks);
+        let gained = tree::pointing(table, moved.ranks, me);
+        let seen = self.view(n, me, m.marks, table, moved.ranks, gained);
         let reply = seen.answer(n, me, table, q);
         let rank = reply.rank;
         rank.settle(n, me, table, reply.send, moved)
@@ -435,8 +437,9 @@ impl Rank {
         let m = tree::mend(n, self.marks, row, q);
         let table = m.table;
         let moved = m.moved;
-        let seen = self.view(n, me, m.marks, table, moved.ranks);
-        let said = self.bereave(n, me, row, q, seen, table, moved.ranks);
+        let gained = tree::gained(n, self.marks, q, table, moved.ranks, me);
+        let seen = self.view(n, me, m.marks, table, moved.ranks, gained);
+        let said = self.bereave(n, me, row, q, seen, table, gained);
         let rank = said.rank;
         rank.settle(n, me, table, said.send, moved)
     }
@@ -459,7 +462,8 @@ impl Rank {
         (self.phase == GATHERING) & (row[me as usize] == sets::NONE) & (row[q as usize] == me)
     }
 
-    // What the death of q means to this rank: `seen` and `table` are the rank and its row with q marked, `moved` who moved by it.
+    // What the death of q means to this rank: `seen` and `table` are the rank and its row with q marked, `gained` the children gained
+    // from q.
     fn bereave(
         self,
         n: u8,
@@ -468,12 +472,11 @@ impl Rank {
         q: u8,
         seen: Rank,
         table: [u8; 64],
-        moved: u64,
+        gained: u64,
     ) -> Said
         requires { ⌜ FreshRow flat n me self row ⌝ }
         requires { ⌜ FreshRow flat n me seen table ⌝ }
-        requires { ⌜ seen .marks ≡ mended flat n (self .marks) q .marks ⌝ }
-        requires { ⌜ moved ≡ mended flat n (self .marks) q .moved .ranks ⌝ }
+        requires { ⌜ gained ≡ meet (childrenOf flat n me seen) (children flat n (self .marks) q) ⌝ }
         requires { ⌜ q < n ⌝ }
         requires { ⌜ has (self .marks) q ≡ false ⌝ }
         ensures { λ r. ⌜ r ≡ bereaved flat n me q self seen ⌝ }
@@ -482,24 +485,12 @@ impl Rank {
             return seen.orphan(n, me, table);
         }
         if self.lost_child(n, me, row, q) {
-            return self.inherit(n, me, q, seen, table, moved);
+            return Said {
+                rank: seen,
+                send: Send::ask(gained),
+            };
         }
         seen.still()
-    }
-
-    // Asks each child gained from q: each that moved here.
-    fn inherit(self, n: u8, me: u8, q: u8, seen: Rank, table: [u8; 64], moved: u64) -> Said
-        requires { ⌜ FreshRow flat n me seen table ⌝ }
-        requires { ⌜ seen .marks ≡ mended flat n (self .marks) q .marks ⌝ }
-        requires { ⌜ moved ≡ mended flat n (self .marks) q .moved .ranks ⌝ }
-        requires { ⌜ q < n ⌝ }
-        ensures { λ r. ⌜ r ≡ inheriting flat n me q self seen ⌝ }
-    {
-        let gained = tree::pointing(table, moved, me);
-        Said {
-            rank: seen,
-            send: Send::ask(gained),
-        }
     }
 
     // The acknowledged set becomes the marks.

@@ -16,6 +16,7 @@ use Rattle.tree.proofs.fresh.Reads as fresh
 use Rattle.tree.proofs.children_of.Reads as children-of
 use Rattle.tree.proofs.pointing.Reads as pointing
 use Rattle.tree.proofs.mend.Reads as mend
+use Rattle.tree.proofs.gained.Reads as gained
 use Rattle.tree.proofs.mend_below.Reads as mend-below
 use Rattle.tree.proofs.wrong_size.Reads as wrong-size
 use Rattle.tree.proofs.same.Reads as same
@@ -39,6 +40,9 @@ pointing-determined κs a t u x y e f = alike e f
 
 pub mend-determined : (κs : Lfts 0) (a : _) (t u : Mended) (x y : _) → mend.Post κs a t x → mend.Post κs a u y → t ≡ u
 mend-determined κs a t u x y e f = alike e f
+
+pub gained-determined : (κs : Lfts 0) (a : _) (t u : ℕ) (x y : _) → gained.Post κs a t x → gained.Post κs a u y → t ≡ u
+gained-determined κs a t u x y e f = alike e f
 
 pub mend-below-determined : (κs : Lfts 0) (a : _) (t u : Mended) (x y : _) → mend-below.Post κs a t x → mend-below.Post κs a u y → t ≡ u
 mend-below-determined κs a t u x y e f = alike e f

@@ -7,6 +7,7 @@ pub mod Flat
 pub mod Finding
 pub mod Heirs
 pub mod Mending
+pub mod Gaining
 pub mod Climbing
 pub mod Calls
 pub mod Marks

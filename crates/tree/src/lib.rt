@@ -5,7 +5,7 @@ ghost use mathlib.Core.Bool.{cond};
 ghost use Prim.Native.Nat.{_+_, _<_, _≤_};
 ghost use lib.Dec.{eqb, ltb};
 ghost use lib.ListN.{getD};
-ghost use Rattle.sets.specs.Sets.{below, has, largest, meet, minus, none, setOf, smallest};
+ghost use Rattle.sets.specs.Sets.{add, below, has, largest, meet, minus, none, setOf, smallest};
 ghost use Rattle.tree.specs.Tree.{children, flat, fresh, half, nobody, parent, row, sized};
 ghost use Rattle.tree.specs.Calls.{andThen, climbed, marked, mended, mendedBelow, markRefused, climbing, same, told, wrongSize};
 
@@ -142,39 +142,64 @@ pub fn pointing(table: [u8; 64], among: u64, q: u8) -> u64
     sets::meet(among, sets::places(table, q))
 }
 
-// Who takes over from a rank that is marked: `up`, its own parent, or, where it had none, the lowest unmarked rank.
-fn heir(after: u64, up: u8) -> u8
-    ensures { λ r. ⌜ r ≡ cond (eqb up none) (smallest (has (minus (below 64) after)) 64 none) up ⌝ }
+// An entry once q is marked: `to` where it was q.
+fn handed(entry: u8, q: u8, to: u8) -> u8
+    ensures { λ r. ⌜ r ≡ cond (eqb entry q) to entry ⌝ }
 {
-    if up == sets::NONE {
-        return sets::smallest(sets::minus(sets::below(64), after));
+    if entry == q {
+        return to;
     }
-    up
+    entry
 }
 
-// The entry of p once q is marked: where it was q it is the heir, and NONE for the heir itself and any below it.
-fn handed(entry: u8, q: u8, heir: u8, p: u8) -> u8
-    ensures { λ r. ⌜ r ≡ cond (eqb entry q) (cond (ltb heir p) heir none) entry ⌝ }
+// All that reported to q report to `up`.
+fn hand_over(mut table: [u8; 64], q: u8, up: u8) -> [u8; 64]
+    ensures { λ r. ⌜ r ≡ row (λ p. cond (eqb (getD table p 0) q) up (getD table p 0)) 64 ⌝ }
 {
-    if entry != q {
-        return entry;
+    let mut p: u8 = 0;
+    while p < 64 {
+        table[p as usize] = handed(table[p as usize], q, up);
+        p += 1;
     }
-    if heir < p {
-        return heir;
+    table
+}
+
+// Whom p reports to under the root `low`: nobody, if it is that root or stands below it.
+fn led(low: u8, p: u8) -> u8
+    ensures { λ r. ⌜ r ≡ cond (ltb low p) low none ⌝ }
+{
+    if low < p {
+        return low;
     }
     sets::NONE
 }
 
-// The table in which all that reported to q report to its heir.
-fn hand_over(mut table: [u8; 64], q: u8, heir: u8) -> [u8; 64]
-    ensures { λ r. ⌜ r ≡ row (λ p. cond (eqb (getD table p 0) q) (cond (ltb heir p) heir none) (getD table p 0)) 64 ⌝ }
+// All that reported to q, the root, report to `low`, the next one.
+fn crown(mut table: [u8; 64], q: u8, low: u8) -> [u8; 64]
+    ensures { λ r. ⌜ r ≡ row (λ p. cond (eqb (getD table p 0) q) (cond (ltb low p) low none) (getD table p 0)) 64 ⌝ }
 {
     let mut p: u8 = 0;
     while p < 64 {
-        table[p as usize] = handed(table[p as usize], q, heir, p);
+        table[p as usize] = handed(table[p as usize], q, led(low, p));
         p += 1;
     }
     table
+}
+
+// The table once q is marked: the links that ended at q end at its heir, its parent or, where it had none, the lowest unmarked rank.
+fn relink(n: u8, marks: u64, table: [u8; 64], q: u8, after: u64) -> [u8; 64]
+    requires { ⌜ n ≤ 64 ⌝ }
+    requires { ⌜ q < n ⌝ }
+    requires { ⌜ table ≡ fresh flat n marks ⌝ }
+    requires { ⌜ after ≡ add marks q ⌝ }
+    ensures { λ r. ⌜ r ≡ fresh flat n after ⌝ }
+{
+    let up = table[q as usize];
+    if up != sets::NONE {
+        return hand_over(table, q, up);
+    }
+    let low = sets::smallest(sets::minus(sets::below(64), after));
+    crown(table, q, low)
 }
 
 // Marks q and mends the table: only entries that pointed at q change.
@@ -202,9 +227,28 @@ pub fn mend(n: u8, marks: u64, table: [u8; 64], q: u8) -> Mended
     }
     Mended {
         marks: after,
-        table: hand_over(table, q, heir(after, table[q as usize])),
+        table: relink(n, marks, table, q, after),
         moved: Moved::sized(sets::minus(changed, after)),
     }
+}
+
+// Those who moved at the mark of q and report to p now. All who moved have one heir, so it is all of them but p itself, or nobody.
+pub fn gained(n: u8, marks: u64, q: u8, table: [u8; 64], moved: u64, p: u8) -> u64
+    requires { ⌜ n ≤ 64 ⌝ }
+    requires { ⌜ q < n ⌝ }
+    requires { ⌜ p < 64 ⌝ }
+    requires { ⌜ table ≡ mended flat n marks q .table ⌝ }
+    requires { ⌜ moved ≡ mended flat n marks q .moved .ranks ⌝ }
+    ensures { λ r. ⌜ r ≡ meet moved (setOf (λ c. eqb (getD table c 0) p) 64) ⌝ }
+{
+    if moved == 0 {
+        return 0;
+    }
+    let last = sets::largest(moved);
+    if table[last as usize] != p {
+        return 0;
+    }
+    sets::minus(moved, sets::only(p))
 }
 
 // Marks every rank below q, ascending; moved is the union and the sum over the marks.

@@ -9,9 +9,9 @@ use lib.Dec.{eqb, ltb, leb}
 use lib.ListN.{length, getD, take, replicate}
 use lib.Seq.{ext-getD, getD-take, length-take-le}
 use borrow.Author.Tests.{eqb-true, eqb-false, eq-eqb, ne-eqb, ltb-true, leb-true, le-leb, lt-ltb, le-ltb, not-true, not-false}
-use Rattle.sets.specs.Sets.{none, has, minus, below, every, all}
-use Rattle.sets.proofs.Laws.Bools.{and-assoc, and-true, eq-or-ne, and-i, and-l, and-r, not-i, clash, fails, lt-or-le, cond-true, cond-false, all-head, all-tail, all-nil, all-step, all-cons, means, meant}
-use Rattle.sets.proofs.Laws.Members.{has-zero, minus-not, minus-l, minus-r, none-in, has-below-lt, has-below}
+use Rattle.sets.specs.Sets.{none, minus, below, every, all}
+use Rattle.sets.proofs.Laws.Bools.{and-assoc, and-true, eq-or-ne, and-i, and-l, and-r, not-i, fails, lt-or-le, cond-true, cond-false, all-head, all-tail, all-nil, all-step, all-cons, means, meant}
+use Rattle.sets.proofs.Laws.Members.{has-below-lt}
 use Rattle.sets.proofs.Laws.Searches.{every-at, every-i, every-not}
 use Rattle.tree.specs.Tree.{flat}
 use Rattle.tree.specs.Calls.{wrongSize, same}

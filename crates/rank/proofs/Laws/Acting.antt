@@ -264,24 +264,26 @@ module _ (anc : ℕ → ℕ) where
   unfolding bereaved
   bereave-orphan n me q r v b s f t e = e ∙ rw (sym f ∙ t)
 
-  pub bereave-inherits : (n me q : ℕ) (r v : Rank) (b c : Bool) (s : Said) → b ≡ inPhase waiting r && eqb (parentOf anc me r) q → b ≡ false
-      → c ≡ inPhase gathering r && eqb (parentOf anc me r) none && has (childrenOf anc n me r) q → c ≡ true → s ≡ inheriting anc n me q r v → s ≡ bereaved anc n me q r v
-  unfolding bereaved
-  bereave-inherits n me q r v b c s f t g u e = e ∙ rw (sym f ∙ t, sym g ∙ u)
+  pub bereave-inherits : (n me q : ℕ) (r v : Rank) (b c : Bool) (g : ℕ) (s : Send) → b ≡ inPhase waiting r && eqb (parentOf anc me r) q → b ≡ false
+      → c ≡ inPhase gathering r && eqb (parentOf anc me r) none && has (childrenOf anc n me r) q → c ≡ true → g ≡ meet (childrenOf anc n me v) (children anc n (r .marks) q) → s ≡ asks g
+      → _≡_ {A = Said} (record { rank = v; send = s }) (bereaved anc n me q r v)
+  unfolding bereaved inheriting saying
+  bereave-inherits n me q r v b c g s f t h u e i = rw (i, e, sym f ∙ t, sym h ∙ u)
 
   pub bereave-other : (n me q : ℕ) (r v : Rank) (b c : Bool) (s : Said) → b ≡ inPhase waiting r && eqb (parentOf anc me r) q → b ≡ false
       → c ≡ inPhase gathering r && eqb (parentOf anc me r) none && has (childrenOf anc n me r) q → c ≡ false → s ≡ saying v silent → s ≡ bereaved anc n me q r v
   unfolding bereaved
   bereave-other n me q r v b c s f t g u e = e ∙ rw (sym f ∙ t, sym g ∙ u)
 
-  pub inherit-returns : (n me q : ℕ) (r v : Rank) (row : List ℕ) (moved g : ℕ) (s : Send) → FreshRow anc n me v row → v .marks ≡ mended anc n (r .marks) q .marks → moved ≡ mended anc n (r .marks) q .moved .ranks → q < n
-      → g ≡ meet moved (setOf (λ p. eqb (getD row p 0) me) 64) → s ≡ asks g → _≡_ {A = Said} (record { rank = v; send = s }) (inheriting anc n me q r v)
-  unfolding inheriting saying childrenOf
-  inherit-returns n me q r v row moved g s k em ev l eg es =
+  -- who moved here at the mark of q is a child gained from it
+  pub gained-here : (n me q : ℕ) (r v : Rank) (row : List ℕ) (g : ℕ) (m : Mended) → FreshRow anc n me r row → q < n → m ≡ mended anc n (r .marks) q → v ≡ viewing anc n me (m .marks) r
+      → g ≡ meet (m .moved .ranks) (setOf (λ p. eqb (getD (m .table) p 0) me) 64) → g ≡ meet (childrenOf anc n me v) (children anc n (r .marks) q)
+  unfolding childrenOf
+  gained-here n me q r v row g m k l em ev eg =
       let b : q < none = omega (arith, k .size) in
-      let a : v .marks ≡ add (r .marks) q = em ∙ mended-marks anc n (r .marks) q (mended anc n (r .marks) q) refl in
-      let e : moved ≡ Tree.moved anc n (r .marks) q .ranks = ev ∙ ap (λ (x : Moved). x .ranks) (mended-moved anc n (r .marks) q (mended anc n (r .marks) q) refl) in
-      rw (es, linked-is n me moved g v row k eg, a, e, children-gained anc n (r .marks) q me b)
+      let a : v .marks ≡ add (r .marks) q = marks-seen n me q r v m em ev ∙ mended-marks anc n (r .marks) q (mended anc n (r .marks) q) refl in
+      let e : m .moved .ranks ≡ Tree.moved anc n (r .marks) q .ranks = ap (λ (x : Moved). x .ranks) (mended-moved anc n (r .marks) q m em) in
+      rw (linked-is n me (m .moved .ranks) g v (m .table) (row-seen n me q r v row m k em ev) eg, a, e, children-gained anc n (r .marks) q me b)
 
   pub row-bereaved : (n me q : ℕ) (r v : Rank) (row : List ℕ) (s : Said) → FreshRow anc n me v row → s ≡ bereaved anc n me q r v → FreshRow anc n me (s .rank) row
   row-bereaved n me q r v row s k e = row-said n me v row s k (ap (λ (x : Said). x .rank .marks) e ∙ bereaved-knows anc n me q r v .marks-are)

@@ -7,7 +7,7 @@ use native.Mathlib.Numerals.{one-add}
 use native.Mathlib.Omega.{arith}
 use lib.Arith.{bin-ind}
 use lib.Pow.{shr-shr}
-use Rattle.sets.specs.Sets.{none, add}
+use Rattle.sets.specs.Sets.{add}
 use Rattle.sets.proofs.Laws.Bools.{eq-or-ne}
 use Rattle.tree.specs.Tree.{half, flat}
 use Rattle.tree.specs.Relations.{Above, Ancestry, Chained}

@@ -1,20 +1,20 @@
 -- Who had q for a parent has, once q is marked, q's own parent; where q had none, the lowest unmarked rank below. Over any ancestor sets that
 -- form a chain. Assumes nothing.
-use mathlib.Core.Path.{_≡_, refl, sym, ap, subst, _∙_}
+use mathlib.Core.Path.{_≡_, refl, sym, subst, _∙_}
 use mathlib.Core.Bool.{cond, not}
 use mathlib.Core.Logic.{⊎-elim}
 use Prim.Native.Nat.{ℕ, _≤_, _<_}
 use native.Mathlib.Omega.{arith}
-use lib.Dec.{eqb, ltb}
-use borrow.Author.Tests.{eq-eqb, ne-eqb, lt-ltb, le-ltb, not-true, not-false}
+use lib.Dec.{ltb}
+use borrow.Author.Tests.{lt-ltb, le-ltb, not-true, not-false}
 use Rattle.sets.specs.Sets.{none, has, add, minus, below, smallest}
-use Rattle.sets.proofs.Laws.Bools.{lt-or-le, eq-or-ne, cond-true, cond-false}
+use Rattle.sets.proofs.Laws.Bools.{clash, lt-or-le, eq-or-ne, cond-true, cond-false}
 use Rattle.sets.proofs.Laws.Members.{has-add-same, has-add-other, has-add-more}
 use Rattle.sets.proofs.Laws.Searches.{LeastOf, least}
 use Rattle.tree.specs.Tree.{parent}
 use Rattle.tree.specs.Relations.{Above, Ancestry, Chained}
-use Rattle.tree.proofs.Laws.Parents.{Marked, Parent, nearest, lowest, nobody, parent-cases, parent-is, parent-lt, no-parent, no-parent-all}
-use Rattle.tree.proofs.Laws.Finding.{low-cases, low-is}
+use Rattle.tree.proofs.Laws.Parents.{Marked, Free, Parent, nearest, lowest, nobody, parent-cases, parent-is, no-parent, no-parent-all}
+use Rattle.tree.proofs.Laws.Finding.{low-cases}
 
 -- an ancestor of p that is above q, or q, is marked after the mark; of one below q it is to be shown
 passed : (anc : ℕ → ℕ) (marks q p k : ℕ) → (q < k → Marked marks k) → (k < q → Marked marks k) → Marked (add marks q) k
@@ -24,7 +24,7 @@ passed anc marks q p k over under =
     (eq-or-ne k q)
 
 -- q had a parent
-parent-passes : (anc : ℕ → ℕ) → Ancestry anc → Chained anc → (marks q p : ℕ) → q < none → parent anc marks p ≡ q → (parent anc marks q ≡ none → ⊥) → parent anc (add marks q) p ≡ parent anc marks q
+pub parent-passes : (anc : ℕ → ℕ) → Ancestry anc → Chained anc → (marks q p : ℕ) → q < none → parent anc marks p ≡ q → (parent anc marks q ≡ none → ⊥) → parent anc (add marks q) p ≡ parent anc marks q
 parent-passes anc tree chain marks q p s e h = by-p (parent anc marks p) (parent-cases anc marks p) e
   where
     by-q : (r : ℕ) → Parent anc marks q r → (r ≡ none → ⊥) → q < p → Above anc p q → ((k : ℕ) → q < k → k < p → Above anc p k → Marked marks k) → parent anc (add marks q) p ≡ r
@@ -64,35 +64,34 @@ over-marked anc marks q p e = go (parent anc marks p) (parent-cases anc marks p)
     go r (nobody b) i k t w x = b k t
 
 -- q had none
-root-passes : (anc : ℕ → ℕ) (marks q p low : ℕ) → p < 64 → q < none → parent anc marks p ≡ q → parent anc marks q ≡ none → low ≡ smallest (has (minus (below 64) (add marks q))) 64 none → parent anc (add marks q) p ≡ cond (ltb low p) low none
+pub root-passes : (anc : ℕ → ℕ) (marks q p low : ℕ) → p < 64 → q < none → parent anc marks p ≡ q → parent anc marks q ≡ none → low ≡ smallest (has (minus (below 64) (add marks q))) 64 none → parent anc (add marks q) p ≡ cond (ltb low p) low none
 root-passes anc marks q p low l s e h =
     orphan-passes anc (add marks q) p low l (λ k t w. passed anc marks q p k (over-marked anc marks q p e k t w) (λ x. no-parent-all anc marks q (omega arith) h k x))
 
--- along the code: `up` is what stood at q, and `next` its heir
-pub heir-is : (anc : ℕ → ℕ) → Ancestry anc → Chained anc → (marks q p after up next : ℕ) → p < 64 → q < none → parent anc marks p ≡ q → up ≡ parent anc marks q → after ≡ add marks q
-    → next ≡ cond (eqb up none) (smallest (has (minus (below 64) after)) 64 none) up → cond (ltb next p) next none ≡ parent anc after p
-heir-is anc tree chain marks q p after up next l s e u a f = ⊎-elim rootless led (eq-or-ne up none)
+-- All who had q for a parent and are unmarked have one heir: if it is p for one of them, it is p for every other but p itself.
+pub one-heir : (anc : ℕ → ℕ) → Ancestry anc → Chained anc → (marks q a b p : ℕ) → a < 64 → b < 64 → q < none → p < none → parent anc marks a ≡ q → parent anc marks b ≡ q → Free (add marks q) b
+    → parent anc (add marks q) a ≡ p → (b ≡ p → ⊥) → parent anc (add marks q) b ≡ p
+one-heir anc tree chain marks q a b p la lb s l ea eb f e d = ⊎-elim rootless led (eq-or-ne (parent anc marks q) none)
   where
-    rootless : up ≡ none → cond (ltb next p) next none ≡ parent anc after p
-    rootless i =
-        let g : next ≡ smallest (has (minus (below 64) (add marks q))) 64 none = f ∙ cond-true (eqb up none) (smallest (has (minus (below 64) after)) 64 none) up (eq-eqb up none i) ∙ ap (λ (x : ℕ). smallest (has (minus (below 64) x)) 64 none) a in
-        sym (root-passes anc marks q p next l s e (sym u ∙ i) g)
-        ∙ ap (λ (x : ℕ). parent anc x p) (sym a)
+    led : (parent anc marks q ≡ none → ⊥) → parent anc (add marks q) b ≡ p
+    led h = parent-passes anc tree chain marks q b s eb h ∙ sym (parent-passes anc tree chain marks q a s ea h) ∙ e
 
-    led : (up ≡ none → ⊥) → cond (ltb next p) next none ≡ parent anc after p
-    led d =
-        let g : next ≡ parent anc marks q = f ∙ cond-false (eqb up none) (smallest (has (minus (below 64) after)) 64 none) up (ne-eqb up none d) ∙ u in
-        let b : parent anc marks q < q = parent-lt anc marks q (λ x. d (u ∙ x)) in
-        let c : q < p = subst (λ (x : ℕ). x < p) e (parent-lt anc marks p (λ x. omega arith)) in
-        cond-true (ltb next p) next none (lt-ltb next p (omega arith))
-        ∙ g
-        ∙ sym (parent-passes anc tree chain marks q p s e (λ x. d (u ∙ x)))
-        ∙ ap (λ (x : ℕ). parent anc x p) (sym a)
+    -- the lowest unmarked rank is below a, so it is p; b is unmarked, so p is below b
+    go : (r : ℕ) → LeastOf (λ k. not (has (add marks q) k)) 64 none r → parent anc (add marks q) a ≡ cond (ltb r a) r none → parent anc (add marks q) b ≡ cond (ltb r b) r none → parent anc (add marks q) b ≡ p
+    go r (LeastOf.empty x) ua ub = absurd (clash (has (add marks q) b) (not-false (has (add marks q) b) (x b lb)) f)
+    go r (least x) ua ub = ⊎-elim below-a past-a (lt-or-le r a)
+      where
+        past-a : a ≤ r → parent anc (add marks q) b ≡ p
+        past-a h = let z : p ≡ none = sym e ∙ ua ∙ cond-false (ltb r a) r none (le-ltb r a h) in absurd (omega arith)
 
--- and of `heir` itself
-pub heir-lowest : (after up all unmarked low : ℕ) → up ≡ none → all ≡ below 64 → unmarked ≡ minus all after → low ≡ smallest (has unmarked) 64 none
-    → low ≡ cond (eqb up none) (smallest (has (minus (below 64) after)) 64 none) up
-heir-lowest after up all unmarked low i u v e = low-is after 64 all unmarked low u v e ∙ sym (cond-true (eqb up none) (smallest (has (minus (below 64) after)) 64 none) up (eq-eqb up none i))
+        below-a : r < a → parent anc (add marks q) b ≡ p
+        below-a h =
+            let i : r ≡ p = sym (cond-true (ltb r a) r none (lt-ltb r a h)) ∙ sym ua ∙ e in
+            let o : b < r → ⊥ = λ c. clash (has (add marks q) b) (not-false (has (add marks q) b) (x .first b c)) f in
+            let c : r < b = ⊎-elim (λ (c : r < b). c) (λ (c : b ≤ r). absurd (o (omega arith))) (lt-or-le r b) in
+            ub ∙ cond-true (ltb r b) r none (lt-ltb r b c) ∙ i
 
-pub heir-up : (after up : ℕ) → (up ≡ none → ⊥) → up ≡ cond (eqb up none) (smallest (has (minus (below 64) after)) 64 none) up
-heir-up after up d = sym (cond-false (eqb up none) (smallest (has (minus (below 64) after)) 64 none) up (ne-eqb up none d))
+    rootless : parent anc marks q ≡ none → parent anc (add marks q) b ≡ p
+    rootless h =
+        let low : ℕ = smallest (has (minus (below 64) (add marks q))) 64 none in
+        go low (low-cases (add marks q) 64 64 (below 64) (minus (below 64) (add marks q)) low (omega arith) refl refl refl) (root-passes anc marks q a low la s ea h refl) (root-passes anc marks q b low lb s eb h refl)

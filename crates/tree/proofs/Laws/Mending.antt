@@ -21,7 +21,8 @@ use Rattle.tree.specs.declared.Moved.{Moved}
 use Rattle.tree.specs.declared.Mended.{Mended}
 use Rattle.tree.proofs.Laws.Rows.{getD-row, row-is, row-cong, Patched, patched-start, patched-put, patched-end, entry-below, entry-past, fresh-at, row-replicate}
 use Rattle.tree.proofs.Laws.Parents.{Marked, Free, parent-free, parent-stays, parent-leaves}
-use Rattle.tree.proofs.Laws.Heirs.{heir-is}
+use Rattle.tree.proofs.Laws.Finding.{low-is}
+use Rattle.tree.proofs.Laws.Heirs.{parent-passes, root-passes}
 
 -- One newly known death moves exactly the links that ended at the dead rank: those move, and no other does.
 pub moves-exactly : (anc : ℕ → ℕ) (marks q p : ℕ) → q < none → not (eqb (parent anc (add marks q) p) (parent anc marks p)) ≡ eqb (parent anc marks p) q
@@ -152,38 +153,58 @@ linked-children anc n marks p = minus-setOf (λ c. eqb (parent anc marks c) p) n
 pub children-read : (anc : ℕ → ℕ) (n marks p w r : ℕ) (t : List ℕ) → n ≤ 64 → p < 64 → t ≡ fresh anc n marks → w ≡ setOf (λ c. eqb (getD t c 0) p) 64 → r ≡ minus w marks → r ≡ children anc n marks p
 children-read anc n marks p w r t b l e h f = f ∙ ap (λ (x : ℕ). minus x marks) (h ∙ entries-fresh anc n marks p t b (omega arith) e) ∙ linked-children anc n marks p
 
--- ---- `mend`: an entry that was q becomes its heir, and no other changes
+-- ---- `relink`: an entry that was q becomes its heir, `f` of each place, and no other changes
 
-abbrev pub handedOn : List ℕ → ℕ → ℕ → ℕ → ℕ
-handedOn t q next p = cond (eqb (getD t p 0) q) (cond (ltb next p) next none) (getD t p 0)
+abbrev pub handedOn : List ℕ → ℕ → (ℕ → ℕ) → ℕ → ℕ
+handedOn t q f p = cond (eqb (getD t p 0) q) (f p) (getD t p 0)
 
 -- what stands at q is q's parent
 table-parent : (anc : ℕ → ℕ) (n marks q : ℕ) (t : List ℕ) → n ≤ 64 → q < n → t ≡ fresh anc n marks → getD t q 0 ≡ parent anc marks q
 table-parent anc n marks q t b l e = ap (λ (x : List ℕ). getD x q 0) e ∙ fresh-at anc n marks q b l
 
-mended-entry : (anc : ℕ → ℕ) → Ancestry anc → Chained anc → (n marks q after next : ℕ) (t : List ℕ) → n ≤ 64 → q < n → t ≡ fresh anc n marks → after ≡ add marks q
-    → next ≡ cond (eqb (getD t q 0) none) (smallest (has (minus (below 64) after)) 64 none) (getD t q 0) → (p : ℕ) → p < 64 → handedOn t q next p ≡ entry anc n after p
+handed-entry : (anc : ℕ → ℕ) (n marks q : ℕ) (f : ℕ → ℕ) (t : List ℕ) → q < none → t ≡ fresh anc n marks → ((p : ℕ) → p < 64 → parent anc marks p ≡ q → f p ≡ parent anc (add marks q) p)
+    → (p : ℕ) → p < 64 → handedOn t q f p ≡ entry anc n (add marks q) p
 unfolding fresh
-mended-entry anc tree chain n marks q after next t b o e a f p l = ⊎-elim inside outside (lt-or-le p n)
+handed-entry anc n marks q f t o e heirs p l = ⊎-elim inside outside (lt-or-le p n)
   where
     at : getD t p 0 ≡ entry anc n marks p
     at = ap (λ (x : List ℕ). getD x p 0) e ∙ getD-row (entry anc n marks) 64 p 0 l
 
-    other : (getD t p 0 ≡ q → ⊥) → handedOn t q next p ≡ getD t p 0
-    other d = cond-false (eqb (getD t p 0) q) (cond (ltb next p) next none) (getD t p 0) (ne-eqb (getD t p 0) q d)
+    other : (getD t p 0 ≡ q → ⊥) → handedOn t q f p ≡ getD t p 0
+    other d = cond-false (eqb (getD t p 0) q) (f p) (getD t p 0) (ne-eqb (getD t p 0) q d)
 
-    inside : p < n → handedOn t q next p ≡ entry anc n after p
+    inside : p < n → handedOn t q f p ≡ entry anc n (add marks q) p
     inside h =
         let g : getD t p 0 ≡ parent anc marks p = at ∙ entry-below anc n marks p h in
         ⊎-elim
-        (λ (i : getD t p 0 ≡ q). cond-true (eqb (getD t p 0) q) (cond (ltb next p) next none) (getD t p 0) (eq-eqb (getD t p 0) q i)
-        ∙ heir-is anc tree chain marks q p after (getD t q 0) next l (omega arith) (sym g ∙ i) (table-parent anc n marks q t b o e) a f)
-        (λ (d : getD t p 0 ≡ q → ⊥). other d ∙ g ∙ sym (parent-stays anc marks q p (λ x. d (g ∙ x))) ∙ ap (λ (x : ℕ). parent anc x p) (sym a))
+        (λ (i : getD t p 0 ≡ q). cond-true (eqb (getD t p 0) q) (f p) (getD t p 0) (eq-eqb (getD t p 0) q i) ∙ heirs p l (sym g ∙ i))
+        (λ (d : getD t p 0 ≡ q → ⊥). other d ∙ g ∙ sym (parent-stays anc marks q p (λ x. d (g ∙ x))))
         (eq-or-ne (getD t p 0) q)
-        ∙ sym (entry-below anc n after p h)
+        ∙ sym (entry-below anc n (add marks q) p h)
 
-    outside : n ≤ p → handedOn t q next p ≡ entry anc n after p
-    outside h = let g : getD t p 0 ≡ none = at ∙ entry-past anc n marks p h in other (λ x. omega arith) ∙ g ∙ sym (entry-past anc n after p h)
+    outside : n ≤ p → handedOn t q f p ≡ entry anc n (add marks q) p
+    outside h = let g : getD t p 0 ≡ none = at ∙ entry-past anc n marks p h in other (λ x. omega arith) ∙ g ∙ sym (entry-past anc n (add marks q) p h)
+
+handed-fresh : (anc : ℕ → ℕ) (n marks q after : ℕ) (f : ℕ → ℕ) (t t′ : List ℕ) → q < none → t ≡ fresh anc n marks → after ≡ add marks q → ((p : ℕ) → p < 64 → parent anc marks p ≡ q → f p ≡ parent anc (add marks q) p)
+    → t′ ≡ row (handedOn t q f) 64 → t′ ≡ fresh anc n after
+unfolding fresh
+handed-fresh anc n marks q after f t t′ o e a heirs r = r ∙ row-cong 0 (handedOn t q f) (entry anc n (add marks q)) 64 (handed-entry anc n marks q f t o e heirs) ∙ ap (λ (y : ℕ). row (entry anc n y) 64) (sym a)
+
+-- q had a parent, and where it had none
+pub relink-up : (anc : ℕ → ℕ) → Ancestry anc → Chained anc → (n marks q after : ℕ) (t t′ : List ℕ) → n ≤ 64 → q < n → t ≡ fresh anc n marks → after ≡ add marks q → (getD t q 0 ≡ none → ⊥)
+    → t′ ≡ row (handedOn t q (λ p. getD t q 0)) 64 → t′ ≡ fresh anc n after
+relink-up anc tree chain n marks q after t t′ b o e a d =
+    let u : getD t q 0 ≡ parent anc marks q = table-parent anc n marks q t b o e in
+    handed-fresh anc n marks q after (λ p. getD t q 0) t t′ (omega arith) e a (λ p l i. u ∙ sym (parent-passes anc tree chain marks q p (omega arith) i (λ x. d (u ∙ x))))
+
+pub relink-low : (anc : ℕ → ℕ) (n marks q after all unmarked low : ℕ) (t t′ : List ℕ) → n ≤ 64 → q < n → t ≡ fresh anc n marks → after ≡ add marks q → getD t q 0 ≡ none
+    → all ≡ below 64 → unmarked ≡ minus all after → low ≡ smallest (has unmarked) 64 none → t′ ≡ row (handedOn t q (λ p. cond (ltb low p) low none)) 64 → t′ ≡ fresh anc n after
+relink-low anc n marks q after all unmarked low t t′ b o e a h x y z =
+    let u : parent anc marks q ≡ none = sym (table-parent anc n marks q t b o e) ∙ h in
+    let w : low ≡ smallest (has (minus (below 64) (add marks q))) 64 none = low-is after 64 all unmarked low x y z ∙ ap (λ (m : ℕ). smallest (has (minus (below 64) m)) 64 none) a in
+    handed-fresh anc n marks q after (λ p. cond (ltb low p) low none) t t′ (omega arith) e a (λ p l i. sym (root-passes anc marks q p low l (omega arith) i u w))
+
+-- ---- `mend`
 
 mended-ranks : (anc : ℕ → ℕ) (n marks q after w : ℕ) → q < none → after ≡ add marks q → w ≡ setOf (λ p. eqb (parent anc marks p) q) n → minus w after ≡ setOf (moves anc marks q) n
 mended-ranks anc n marks q after w b a e =
@@ -191,14 +212,12 @@ mended-ranks anc n marks q after w b a e =
     ∙ minus-setOf (λ p. eqb (parent anc marks p) q) n (add marks q)
     ∙ sym (setOf-cong (moves anc marks q) (λ p. not (has (add marks q) p) && eqb (parent anc marks p) q) n (λ p l. moves-linked anc marks q p b))
 
-pub mended-whole : (anc : ℕ → ℕ) → Ancestry anc → Chained anc → (n marks q after w next left : ℕ) (t t′ : List ℕ) (v : Moved) → n ≤ 64 → q < n → t ≡ fresh anc n marks → after ≡ add marks q
-    → w ≡ setOf (λ p. eqb (getD t p 0) q) 64 → next ≡ cond (eqb (getD t q 0) none) (smallest (has (minus (below 64) after)) 64 none) (getD t q 0)
-    → t′ ≡ row (handedOn t q next) 64 → left ≡ minus w after → v ≡ sized left → _≡_ {A = Mended} (record { marks = after; table = t′; moved = v }) (mended anc n marks q)
-unfolding mended moved fresh
-mended-whole anc tree chain n marks q after w next left t t′ v b o et a ew en e el ev =
-    let x : t′ ≡ row (entry anc n (add marks q)) 64 = e ∙ row-cong 0 (handedOn t q next) (entry anc n after) 64 (mended-entry anc tree chain n marks q after next t b o et a en) ∙ ap (λ (y : ℕ). row (entry anc n y) 64) a in
+pub mended-whole : (anc : ℕ → ℕ) (n marks q after w left : ℕ) (t t′ : List ℕ) (v : Moved) → n ≤ 64 → q < n → t ≡ fresh anc n marks → after ≡ add marks q → w ≡ setOf (λ p. eqb (getD t p 0) q) 64
+    → t′ ≡ fresh anc n after → left ≡ minus w after → v ≡ sized left → _≡_ {A = Mended} (record { marks = after; table = t′; moved = v }) (mended anc n marks q)
+unfolding mended moved
+mended-whole anc n marks q after w left t t′ v b o et a ew e el ev =
     let y : v ≡ sized (setOf (moves anc marks q) n) = ev ∙ ap sized (el ∙ mended-ranks anc n marks q after w (omega arith) a (ew ∙ entries-fresh anc n marks q t b (omega arith) et)) in
-    rw (a, x, y)
+    rw (e, a, y)
 
 -- where no entry is q, the table stays
 pub mended-alone : (anc : ℕ → ℕ) (n marks q after w : ℕ) (t : List ℕ) (v : Moved) → n ≤ 64 → q < n → t ≡ fresh anc n marks → after ≡ add marks q
@@ -219,17 +238,17 @@ mended-alone anc n marks q after w t v b o et a ew z ev =
         (λ (l : n ≤ p). entry-past anc n marks p l ∙ sym (entry-past anc n (add marks q) p l))
         (lt-or-le p n)
 
--- ---- the loop of `hand_over`
+-- ---- the loops of `hand_over` and `crown`
 
-pub handing-start : (t : List ℕ) (q next : ℕ) → length t ≡ 64 → Patched 0 (handedOn t q next) (λ k. getD t k 0) 64 0 t
-handing-start t q next l = patched-start 0 (handedOn t q next) (λ k. getD t k 0) 64 t (row-is 0 (λ k. getD t k 0) 64 t l (λ k b. refl))
+pub handing-start : (t : List ℕ) (q : ℕ) (f : ℕ → ℕ) → length t ≡ 64 → Patched 0 (handedOn t q f) (λ k. getD t k 0) 64 0 t
+handing-start t q f l = patched-start 0 (handedOn t q f) (λ k. getD t k 0) 64 t (row-is 0 (λ k. getD t k 0) 64 t l (λ k b. refl))
 
-pub handing-put : (t₀ t t′ : List ℕ) (q next p v : ℕ) → Patched 0 (handedOn t₀ q next) (λ k. getD t₀ k 0) 64 p t → p < 64 → v ≡ cond (eqb (getD t p 0) q) (cond (ltb next p) next none) (getD t p 0) → t′ ≡ set t p v
-    → Patched 0 (handedOn t₀ q next) (λ k. getD t₀ k 0) 64 (p + 1) t′
-handing-put t₀ t t′ q next p v m l e et = rw et (patched-put 0 (handedOn t₀ q next) (λ k. getD t₀ k 0) 64 p v t m l (e ∙ ap (λ (x : ℕ). cond (eqb x q) (cond (ltb next p) next none) x) (m .rest p (omega arith) l)))
+pub handing-put : (t₀ t t′ : List ℕ) (q : ℕ) (f : ℕ → ℕ) (p to v : ℕ) → Patched 0 (handedOn t₀ q f) (λ k. getD t₀ k 0) 64 p t → p < 64 → to ≡ f p → v ≡ cond (eqb (getD t p 0) q) to (getD t p 0) → t′ ≡ set t p v
+    → Patched 0 (handedOn t₀ q f) (λ k. getD t₀ k 0) 64 (p + 1) t′
+handing-put t₀ t t′ q f p to v m l h e et = rw et (patched-put 0 (handedOn t₀ q f) (λ k. getD t₀ k 0) 64 p v t m l (e ∙ ap₂ (λ (x y : ℕ). cond (eqb x q) y x) (m .rest p (omega arith) l) h))
 
-pub handing-end : (t₀ t : List ℕ) (q next p : ℕ) → Patched 0 (handedOn t₀ q next) (λ k. getD t₀ k 0) 64 p t → 64 ≤ p → t ≡ row (handedOn t₀ q next) 64
-handing-end t₀ t q next p m l = patched-end 0 (handedOn t₀ q next) (λ k. getD t₀ k 0) 64 p t m (λ k a b. absurd (omega arith))
+pub handing-end : (t₀ t : List ℕ) (q : ℕ) (f : ℕ → ℕ) (p : ℕ) → Patched 0 (handedOn t₀ q f) (λ k. getD t₀ k 0) 64 p t → 64 ≤ p → t ≡ row (handedOn t₀ q f) 64
+handing-end t₀ t q f p m l = patched-end 0 (handedOn t₀ q f) (λ k. getD t₀ k 0) 64 p t m (λ k a b. absurd (omega arith))
 
 -- ---- marking all below q
 

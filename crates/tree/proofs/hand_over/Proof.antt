@@ -1,5 +1,6 @@
 -- `tree::hand_over` meets its contract. The invariant: the first p entries are handed over, the others are as they were.
 -- Assumes nothing.
+use mathlib.Core.Path.{refl}
 use Prim.Native.Nat.{_-_}
 use lib.ListN.{getD}
 use borrow.Author.Needs.{needs}
@@ -9,10 +10,10 @@ use Rattle.tree.proofs.hand_over.Statement.{statement}
 use Rattle.tree.proofs.hand_over.Tie as tie
 
 abbrev Inv-loop : tie.InvT-loop
-Inv-loop q heir table₀ p₀ table p = Patched 0 (handedOn table₀ q heir) (λ k. getD table₀ k 0) 64 p table
+Inv-loop q up table₀ p₀ table p = Patched 0 (handedOn table₀ q (λ k. up)) (λ k. getD table₀ k 0) 64 p table
 
 abbrev μ-loop : tie.MeasureT-loop
-μ-loop q heir table₀ p₀ table p = 64 - p
+μ-loop q up table₀ p₀ table p = 64 - p
 
 loop-holds : tie.Need-loop-holds Inv-loop μ-loop
 loop-holds c = search handing-start
@@ -39,10 +40,12 @@ loop-less : tie.Need-loop-less Inv-loop μ-loop
 loop-less c = search needs
 
 loop-again : tie.Need-loop-again Inv-loop μ-loop
-loop-again c = search handing-put
+loop-again c =
+    let given = c .before .before .before .args in
+    handing-put (given .t1) _ _ (given .q) (λ k. given .up) _ (given .up) _ (c .before .before .loop .inv) (search needs) refl (c .handed .ensures) refl
 
 returns : tie.Need-returns Inv-loop μ-loop
-returns c = let given = c .before .before .args in handing-end (given .t1) _ (given .q) (given .heir) _ (c .before .loop .inv) (search needs)
+returns c = let given = c .before .before .args in handing-end (given .t1) _ (given .q) (λ k. given .up) _ (c .before .loop .inv) (search needs)
 
 pub hand-over-spec : {M : Type 1} → statement M
 hand-over-spec =

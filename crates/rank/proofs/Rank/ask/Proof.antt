@@ -8,8 +8,11 @@ use Rattle.rank.proofs.Rank.ask.Tie as tie
 mend-below-requires : tie.Need-mend-below-requires
 mend-below-requires c κs = search needs
 
+pointing-requires : tie.Need-pointing-requires
+pointing-requires c κs = search needs
+
 view-requires : tie.Need-view-requires
-view-requires c κs = (search row-below, (search needs, (search below-unmarked, search below-stays)))
+view-requires c κs = (search row-below, (search needs, (search below-unmarked, (search below-stays, search needs))))
 
 answer-requires : tie.Need-answer-requires
 answer-requires c κs = (search row-seen-below, search needs)
@@ -22,4 +25,4 @@ returns c = search ask-returns
 
 pub ask-spec : {M : Type 1} → statement M
 ask-spec =
-    tie.close (tie.spec mend-below-requires view-requires answer-requires settle-requires returns)
+    tie.close (tie.spec mend-below-requires pointing-requires view-requires answer-requires settle-requires returns)

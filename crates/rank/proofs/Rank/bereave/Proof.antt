@@ -16,8 +16,8 @@ returns c = search bereave-orphan
 lost-child-requires : tie.Need-lost-child-requires
 lost-child-requires c κs = search needs
 
-inherit-requires : tie.Need-inherit-requires
-inherit-requires c κs = search needs
+ask-requires : tie.Need-ask-requires
+ask-requires c κs = search needs
 
 returns-2 : tie.Need-returns-2
 returns-2 c = search bereave-inherits
@@ -36,7 +36,7 @@ bereave-spec =
     orphan-requires
     returns
     lost-child-requires
-    inherit-requires
+    ask-requires
     returns-2
     still-requires
     returns-3)

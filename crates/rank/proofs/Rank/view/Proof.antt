@@ -1,4 +1,4 @@
--- `Rank::view` meets its contract: who stayed has the parent it had, and who moved here is read off the new table. Assumes nothing.
+-- `Rank::view` meets its contract: who stayed has the parent it had, and who moved here is gained. Assumes nothing.
 use borrow.Author.Needs.{needs}
 use Rattle.rank.proofs.Laws.Acting.{view-returns}
 use Rattle.rank.proofs.Rank.view.Statement.{statement}
@@ -6,9 +6,6 @@ use Rattle.rank.proofs.Rank.view.Tie as tie
 
 minus-requires : tie.Need-minus-requires
 minus-requires c κs = search needs
-
-pointing-requires : tie.Need-pointing-requires
-pointing-requires c κs = search needs
 
 union-requires : tie.Need-union-requires
 union-requires c κs = search needs
@@ -25,4 +22,4 @@ returns c = search view-returns
 pub view-spec : {M : Type 1} → statement M
 view-spec =
     tie.close
-    (tie.spec minus-requires pointing-requires union-requires minus-requires-2 minus-requires-3 returns)
+    (tie.spec minus-requires union-requires minus-requires-2 minus-requires-3 returns)
