@@ -2,12 +2,13 @@
 -- missing from its acknowledged set exactly if it is missing from the one that some member proposed. All deaths are ranks of the group, since
 -- reached states are in order. Assumes nothing.
 use mathlib.Core.Path.{_≡_, refl, sym, ap, subst, _∙_}
-use mathlib.Core.Bool.{Bool, true, false, cond, _&&_, _||_}
+use mathlib.Core.Bool.{Bool, true, false, cond, not, _&&_, _||_}
 use mathlib.Core.Logic.{_⊎_, inl, inr, ⊎-elim}
 use Prim.Native.Nat.{ℕ, zero, suc, _<_}
 use native.Mathlib.Omega.{arith}
+use borrow.Author.Tests.{not-true}
 use Rattle.sets.specs.Sets.{has}
-use Rattle.sets.proofs.Laws.Bools.{clash, eq-or-ne, or-l, or-r, or-cases, and-not-l, and-not-r}
+use Rattle.sets.proofs.Laws.Bools.{clash, eq-or-ne, or-l, or-r, or-cases, not-i, not-o}
 use Rattle.tree.specs.Tree.{flat}
 use Rattle.rank.specs.declared.Triple.{Triple}
 use Rattle.rank.specs.Triples.{freshTriple, combine, code}
@@ -20,71 +21,52 @@ use Rattle.group.specs.Reaching.{Reaches, begun, next}
 use Rattle.group.proofs.Laws.Reached.{reached-member}
 use Rattle.agreement.specs.Agreement.{isEntry, proposalOf, together, FromTheLiving, Unacknowledged, CodeSays}
 
--- ---- what a set proposed together, death by death
+-- ---- what a set proposed together: of any test that two triples combined pass exactly if one of them does
 
-module _ (n : ℕ) (proposals : ℕ → Triple) (A d : ℕ) where
-  -- a member below k that proposed the death; one that did not acknowledge it
-  abbrev Knew : ℕ → Type 0
-  Knew k = (i : ℕ) × (i < k) × (has A i ≡ true) × (has (proposals i .known) d ≡ true)
+module _ (n : ℕ) (proposals : ℕ → Triple) (A : ℕ) (f : Triple → Bool) (either : (a b : Triple) → f (combine a b) ≡ f a || f b) where
+  -- a member below k whose proposal passes
+  abbrev Passes : ℕ → Type 0
+  Passes k = (i : ℕ) × (i < k) × (has A i ≡ true) × (f (proposals i) ≡ true)
 
-  abbrev Lacked : ℕ → Type 0
-  Lacked k = (i : ℕ) × (i < k) × (has A i ≡ true) × (has (proposals i .acknowledged) d ≡ false)
-
-  one-more : (k : ℕ) → Knew k → Knew (suc k)
+  one-more : (k : ℕ) → Passes k → Passes (suc k)
   one-more k (i, l, a, h) = (i, omega arith, a, h)
 
-  lack-more : (k : ℕ) → Lacked k → Lacked (suc k)
-  lack-more k (i, l, a, h) = (i, omega arith, a, h)
-
-  pub known-from : (k : ℕ) → has (together n proposals A k .known) d ≡ true → Knew k
+  pub member-of : f (freshTriple n) ≡ false → (k : ℕ) → f (together n proposals A k) ≡ true → Passes k
   unfolding together
-  known-from zero h = absurd (clash (has (freshTriple n .known) d) h (fresh-known n d))
-  known-from (suc k) h = go (has A k) refl (known-from k) h
+  member-of fails zero h = absurd (clash (f (freshTriple n)) h fails)
+  member-of fails (suc k) h = go (has A k) refl (member-of fails k) h
     where
-      go : (b : Bool) → has A k ≡ b → (has (together n proposals A k .known) d ≡ true → Knew k) → has (cond b (combine (together n proposals A k) (proposals k)) (together n proposals A k) .known) d ≡ true → Knew (suc k)
+      go : (b : Bool) → has A k ≡ b → (f (together n proposals A k) ≡ true → Passes k) → f (cond b (combine (together n proposals A k) (proposals k)) (together n proposals A k)) ≡ true → Passes (suc k)
       go true e ih y =
-          ⊎-elim (λ (z : has (together n proposals A k .known) d ≡ true). one-more k (ih z)) (λ (z : has (proposals k .known) d ≡ true). (k, omega arith, e, z))
-          (or-cases (has (together n proposals A k .known) d) (has (proposals k .known) d) (sym (combine-known (together n proposals A k) (proposals k) d) ∙ y))
+          ⊎-elim (λ (z : f (together n proposals A k) ≡ true). one-more k (ih z)) (λ (z : f (proposals k) ≡ true). (k, omega arith, e, z))
+          (or-cases (f (together n proposals A k)) (f (proposals k)) (sym (either (together n proposals A k) (proposals k)) ∙ y))
       go false e ih y = one-more k (ih y)
 
-  pub known-of : (k i : ℕ) → i < k → has A i ≡ true → has (proposals i .known) d ≡ true → has (together n proposals A k .known) d ≡ true
+  pub of-member : (k i : ℕ) → i < k → has A i ≡ true → f (proposals i) ≡ true → f (together n proposals A k) ≡ true
   unfolding together
-  known-of zero i l a h = absurd (omega arith)
-  known-of (suc k) i l a h = go (has A k) refl (known-of k i) (eq-or-ne i k)
+  of-member zero i l a h = absurd (omega arith)
+  of-member (suc k) i l a h = go (has A k) refl (of-member k i) (eq-or-ne i k)
     where
-      go : (b : Bool) → has A k ≡ b → (i < k → has A i ≡ true → has (proposals i .known) d ≡ true → has (together n proposals A k .known) d ≡ true) → (i ≡ k) ⊎ (i ≡ k → ⊥)
-          → has (cond b (combine (together n proposals A k) (proposals k)) (together n proposals A k) .known) d ≡ true
-      go true e ih (inl y) = combine-known (together n proposals A k) (proposals k) d ∙ or-r (has (together n proposals A k .known) d) (has (proposals k .known) d) (subst (λ (j : ℕ). has (proposals j .known) d ≡ true) y h)
-      go true e ih (inr y) = combine-known (together n proposals A k) (proposals k) d ∙ or-l (has (together n proposals A k .known) d) (has (proposals k .known) d) (ih (omega arith) a h)
+      go : (b : Bool) → has A k ≡ b → (i < k → has A i ≡ true → f (proposals i) ≡ true → f (together n proposals A k) ≡ true) → (i ≡ k) ⊎ (i ≡ k → ⊥)
+          → f (cond b (combine (together n proposals A k) (proposals k)) (together n proposals A k)) ≡ true
+      go true e ih (inl y) = either (together n proposals A k) (proposals k) ∙ or-r (f (together n proposals A k)) (f (proposals k)) (subst (λ (j : ℕ). f (proposals j) ≡ true) y h)
+      go true e ih (inr y) = either (together n proposals A k) (proposals k) ∙ or-l (f (together n proposals A k)) (f (proposals k)) (ih (omega arith) a h)
       go false e ih (inl y) = absurd (clash (has A k) (subst (λ (j : ℕ). has A j ≡ true) y a) e)
       go false e ih (inr y) = ih (omega arith) a h
 
-  pub lacked-from : d < n → (k : ℕ) → has (together n proposals A k .acknowledged) d ≡ false → Lacked k
-  unfolding together
-  lacked-from b zero h = absurd (clash (has (freshTriple n .acknowledged) d) (fresh-acknowledged n d b) h)
-  lacked-from b (suc k) h = go (has A k) refl (lacked-from b k) h
-    where
-      either : (x y : Bool) → x && y ≡ false → (x ≡ false) ⊎ (y ≡ false)
-      either true y e = inr e
-      either false y e = inl refl
+-- Two such tests: the death is known; and, of a rank of the group, it is missing from the acknowledged set.
+abbrev knows : ℕ → Triple → Bool
+knows d t = has (t .known) d
 
-      go : (b : Bool) → has A k ≡ b → (has (together n proposals A k .acknowledged) d ≡ false → Lacked k) → has (cond b (combine (together n proposals A k) (proposals k)) (together n proposals A k) .acknowledged) d ≡ false → Lacked (suc k)
-      go true e ih y =
-          ⊎-elim (λ (z : has (together n proposals A k .acknowledged) d ≡ false). lack-more k (ih z)) (λ (z : has (proposals k .acknowledged) d ≡ false). (k, omega arith, e, z))
-          (either (has (together n proposals A k .acknowledged) d) (has (proposals k .acknowledged) d) (sym (combine-acknowledged (together n proposals A k) (proposals k) d) ∙ y))
-      go false e ih y = lack-more k (ih y)
+abbrev lacks : ℕ → Triple → Bool
+lacks d t = not (has (t .acknowledged) d)
 
-  pub lacked-of : (k i : ℕ) → i < k → has A i ≡ true → has (proposals i .acknowledged) d ≡ false → has (together n proposals A k .acknowledged) d ≡ false
-  unfolding together
-  lacked-of zero i l a h = absurd (omega arith)
-  lacked-of (suc k) i l a h = go (has A k) refl (lacked-of k i) (eq-or-ne i k)
-    where
-      go : (b : Bool) → has A k ≡ b → (i < k → has A i ≡ true → has (proposals i .acknowledged) d ≡ false → has (together n proposals A k .acknowledged) d ≡ false) → (i ≡ k) ⊎ (i ≡ k → ⊥)
-          → has (cond b (combine (together n proposals A k) (proposals k)) (together n proposals A k) .acknowledged) d ≡ false
-      go true e ih (inl y) = combine-acknowledged (together n proposals A k) (proposals k) d ∙ and-not-r (has (together n proposals A k .acknowledged) d) (has (proposals k .acknowledged) d) (subst (λ (j : ℕ). has (proposals j .acknowledged) d ≡ false) y h)
-      go true e ih (inr y) = combine-acknowledged (together n proposals A k) (proposals k) d ∙ and-not-l (has (together n proposals A k .acknowledged) d) (has (proposals k .acknowledged) d) (ih (omega arith) a h)
-      go false e ih (inl y) = absurd (clash (has A k) (subst (λ (j : ℕ). has A j ≡ true) y a) e)
-      go false e ih (inr y) = ih (omega arith) a h
+lacks-either : (d : ℕ) (a b : Triple) → lacks d (combine a b) ≡ lacks d a || lacks d b
+lacks-either d a b = ap not (combine-acknowledged a b d) ∙ not-both (has (a .acknowledged) d) (has (b .acknowledged) d)
+  where
+    not-both : (x y : Bool) → not (x && y) ≡ not x || not y
+    not-both true y = refl
+    not-both false y = refl
 
 -- ---- the sets of a verdict lie within the group
 
@@ -125,28 +107,40 @@ module _ (anc : ℕ → ℕ) (n : ℕ) (s : State) (run : Reaches anc n s) (verd
 
   -- ---- the code
 
+  abbrev proposed : ℕ → Triple
+  proposed = proposalOf anc n s run
+
   one-says : code verdict ≡ 1 → Unacknowledged anc n s run (f .members) (f .added)
   one-says e = go (code-misses n verdict verdict-within e)
     where
+      knew : (d : ℕ) → has (all .known) d ≡ true → (i : ℕ) × (has (f .members) i ≡ true) × (has (proposed i .known) d ≡ true)
+      knew d h = let k = member-of n proposed (f .members) (knows d) (λ a b. combine-known a b d) (fresh-known n d) n h in (k .0, k .2, k .3)
+
+      lacked : (d : ℕ) → d < n → has (all .acknowledged) d ≡ false → (i : ℕ) × (has (f .members) i ≡ true) × (has (proposed i .acknowledged) d ≡ false)
+      lacked d l h =
+          let k = member-of n proposed (f .members) (lacks d) (lacks-either d) (not-o (has (freshTriple n .acknowledged) d) (fresh-acknowledged n d l)) n (not-i (has (all .acknowledged) d) h) in
+          (k .0, k .2, not-true (has (proposed (k .0) .acknowledged) d) (k .3))
+
       go : (d : ℕ) × Missing verdict d → Unacknowledged anc n s run (f .members) (f .added)
       go (d, m) = record {
         death = d;
-        known = ⊎-elim
-            (λ (h : has (all .known) d ≡ true). let k = known-from n (proposalOf anc n s run) (f .members) d n h in inl (k .0, k .2, k .3))
-            (λ (h : has (f .added) d ≡ true). inr h)
-            (or-cases (has (all .known) d) (has (f .added) d) (sym (known-is d) ∙ m .0));
-        missing = let k = lacked-from n (proposalOf anc n s run) (f .members) d (verdict-within .known-in d (m .0)) n (sym (acknowledged-is d) ∙ m .1) in (k .0, k .2, k .3);
+        known = ⊎-elim (λ (h : has (all .known) d ≡ true). inl (knew d h)) (λ (h : has (f .added) d ≡ true). inr h) (or-cases (has (all .known) d) (has (f .added) d) (sym (known-is d) ∙ m .0));
+        missing = lacked d (verdict-within .known-in d (m .0)) (sym (acknowledged-is d) ∙ m .1);
       }
 
   says-one : Unacknowledged anc n s run (f .members) (f .added) → code verdict ≡ 1
-  says-one u =
-      let d : ℕ = u .death in
-      missing-code verdict d (
-        known-is d ∙ ⊎-elim
-            (λ (h : (i : ℕ) × (has (f .members) i ≡ true) × (has (proposalOf anc n s run i .known) d ≡ true)). or-l (has (all .known) d) (has (f .added) d) (known-of n (proposalOf anc n s run) (f .members) d n (h .0) (f .inside (h .0) (h .1)) (h .1) (h .2)))
-            (λ (h : has (f .added) d ≡ true). or-r (has (all .known) d) (has (f .added) d) h) (u .known),
-        acknowledged-is d ∙ lacked-of n (proposalOf anc n s run) (f .members) d n (u .missing .0) (f .inside (u .missing .0) (u .missing .1)) (u .missing .1) (u .missing .2),
-      )
+  says-one u = missing-code verdict (u .death) (known-is (u .death) ∙ ⊎-elim proposed-it added-it (u .known), acknowledged-is (u .death) ∙ not-acknowledged (u .missing))
+    where
+      proposed-it : (i : ℕ) × (has (f .members) i ≡ true) × (has (proposed i .known) (u .death) ≡ true) → has (all .known) (u .death) || has (f .added) (u .death) ≡ true
+      proposed-it (i, a, h) = or-l (has (all .known) (u .death)) (has (f .added) (u .death)) (of-member n proposed (f .members) (knows (u .death)) (λ a b. combine-known a b (u .death)) n i (f .inside i a) a h)
+
+      added-it : has (f .added) (u .death) ≡ true → has (all .known) (u .death) || has (f .added) (u .death) ≡ true
+      added-it h = or-r (has (all .known) (u .death)) (has (f .added) (u .death)) h
+
+      not-acknowledged : (i : ℕ) × (has (f .members) i ≡ true) × (has (proposed i .acknowledged) (u .death) ≡ false) → has (all .acknowledged) (u .death) ≡ false
+      not-acknowledged (i, a, h) =
+          not-true (has (all .acknowledged) (u .death))
+          (of-member n proposed (f .members) (lacks (u .death)) (lacks-either (u .death)) n i (f .inside i a) a (not-i (has (proposed i .acknowledged) (u .death)) h))
 
 -- The code of a verdict is 1 exactly if some death that a member of A proposed, or that is in R, is missing from the acknowledged set that some
 -- member of A proposed.
