@@ -53,11 +53,11 @@ agreement-in-the-flat-tree = agreement flat flat-ancestry flat-chained
 -- ---- whole schedules
 
 -- The listing of an accepted file never shows two living decided ranks with different results.
-pub no-schedule-disagrees : (file out : List ℕ) → run flat file out .answer ≡ 0 → (i j : ℕ) → Decides (byteAt file 5) (run flat file out .state) i → Decides (byteAt file 5) (run flat file out .state) j
-    → rankAt (run flat file out .state) i .result ≡ rankAt (run flat file out .state) j .result
-no-schedule-disagrees file out z = agreement-in-the-flat-tree (byteAt file 5) (run flat file out .state) (run-reaches file out z) .0
+pub no-schedule-disagrees : (file out : List ℕ) → run file out .answer ≡ 0 → (i j : ℕ) → Decides (byteAt file 5) (run file out .state) i → Decides (byteAt file 5) (run file out .state) j
+    → rankAt (run file out .state) i .result ≡ rankAt (run file out .state) j .result
+no-schedule-disagrees file out z = agreement-in-the-flat-tree (byteAt file 5) (run file out .state) (run-reaches file out z) .0
 
 -- And what they show is what a set of ranks with every living one proposed together, by the accepted events of the file, with what a root added.
-pub a-schedules-result-is-from-the-living : (file out : List ℕ) (z : run flat file out .answer ≡ 0) (i : ℕ) → Decides (byteAt file 5) (run flat file out .state) i
-    → FromTheLiving flat (byteAt file 5) (run flat file out .state) (run-reaches file out z) (rankAt (run flat file out .state) i .result)
-a-schedules-result-is-from-the-living file out z = agreement-in-the-flat-tree (byteAt file 5) (run flat file out .state) (run-reaches file out z) .1
+pub a-schedules-result-is-from-the-living : (file out : List ℕ) (z : run file out .answer ≡ 0) (i : ℕ) → Decides (byteAt file 5) (run file out .state) i
+    → FromTheLiving flat (byteAt file 5) (run file out .state) (run-reaches file out z) (rankAt (run file out .state) i .result)
+a-schedules-result-is-from-the-living file out z = agreement-in-the-flat-tree (byteAt file 5) (run file out .state) (run-reaches file out z) .1

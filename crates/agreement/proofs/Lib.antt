@@ -5,5 +5,6 @@ pub mod Concord
 pub mod Votes
 pub mod Agreement
 pub mod Verdicts
+pub mod Forms
 pub mod Overhearing
 pub mod Witnesses

@@ -73,7 +73,7 @@ lacks-either d a b = ap not (combine-acknowledged a b d) ∙ not-both (has (a .a
 -- what a rank proposed
 proposed-within : (anc : ℕ → ℕ) (n : ℕ) (s : State) (run : Reaches anc n s) (i : ℕ) → i < n → TripleWithin n (proposalOf anc n s run i)
 unfolding proposalOf
-proposed-within anc n s (begun z) i l = fresh-within n
+proposed-within anc n s (begun form span z) i l = fresh-within n
 proposed-within anc n s (next s′ ev run z) i l = go (isEntry ev i) (proposed-within anc n s′ run i l)
   where
     go : (b : Bool) → TripleWithin n (proposalOf anc n s′ run i) → TripleWithin n (cond b (proposal (ev .b) (rankAt s′ i)) (proposalOf anc n s′ run i))

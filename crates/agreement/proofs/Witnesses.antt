@@ -15,8 +15,9 @@ use Rattle.sets.proofs.Laws.Members.{has-zero, minus-not}
 use Rattle.sets.proofs.Laws.Searches.{every-at, every-i}
 use Rattle.sets.specs.Sets.{has, only, union, meet, minus, add, below, setOf, count, largest, smallest, listed, every, all}
 use Rattle.tree.proofs.Laws.Rows.{same-eq}
-use Rattle.tree.specs.Calls.{andThen, movedBelow, wrongSize, same}
+use Rattle.tree.specs.Calls.{andThen, movedBelow, wrongSize, misshapen, same}
 use Rattle.tree.specs.Tree.{lineage, ancestors, half, flat, parent, children, row, entry, fresh, moves, sized, moved}
+use Rattle.tree.specs.Forms.{flatForm}
 use Rattle.rank.specs.Records.{becoming, combining, concluding, owing, admitting, proposal, parentOf, childrenOf, awaiting, freshRank, hearing, viewing}
 use Rattle.rank.specs.Rules.{inPhase, saying, deciding, settled, done, settling, entering, noting, raised, takingUp, lowered, takingDown, asked, takingAsk, renewing, regathering, orphaned, inheriting, bereaved, noticing, acknowledging}
 use Rattle.rank.specs.Sends.{silent, reports, tells, asks, letter, letters}
@@ -46,7 +47,7 @@ use Rattle.agreement.specs.Agreement.{isEntry, hasEntered, proposalOf}
 use Rattle.agreement.specs.Witnesses.{mourned, absent, busy, untold, bereft, late, since, unheard, slice, runs, ended, isQuiet, allEntered, allDeathsKnown, allDecided, shown, knows, LivesWith, DiedWith, witnesses}
 
 pub the-tests-pass : all witnesses ≡ true
-unfolding has only union meet minus add below setOf count largest smallest listed every all andThen movedBelow wrongSize same lineage ancestors half flat parent children row entry fresh moves sized moved proper tripleWithin isZero clauses rankInOrder becoming combining concluding owing admitting proposal parentOf childrenOf awaiting freshRank hearing viewing inPhase saying deciding settled done settling entering noting raised takingUp lowered takingDown asked takingAsk renewing regathering orphaned inheriting bereaved noticing acknowledging silent reports tells asks letter letters freshTriple combine closing code subject refusing accepting afterwards fitting delivered acting planned posted joining applied refused carried subjectOf planOf stepped padded without isWithin memberInOrder zeroRecord strangerInOrder seatInOrder seatInOrderAt messageInOrder zeroPlace placeInOrder placeInOrderAt inOrder event namesRank namesPlace wrongKind wrongRank noMessage isDead notOutside isLiving isLast bothLive lateRefusal refusal firstRank firstRow freshState started byteAt shortAt numberAt eventAt eventsIn wrongMark wrongVersion broken header numberOf written told stepping steppedOn steppedRun refusedRun then file three mourned absent busy untold bereft late since unheard slice runs ended isQuiet allEntered allDeathsKnown allDecided shown knows witnesses
+unfolding has only union meet minus add below setOf count largest smallest listed every all andThen movedBelow wrongSize misshapen same lineage ancestors half flat parent children row entry fresh moves sized moved proper tripleWithin isZero clauses rankInOrder becoming combining concluding owing admitting proposal parentOf childrenOf awaiting freshRank hearing viewing inPhase saying deciding settled done settling entering noting raised takingUp lowered takingDown asked takingAsk renewing regathering orphaned inheriting bereaved noticing acknowledging silent reports tells asks letter letters freshTriple combine closing code subject refusing accepting afterwards fitting delivered acting planned posted joining applied refused carried subjectOf planOf stepped padded without isWithin memberInOrder zeroRecord strangerInOrder seatInOrder seatInOrderAt messageInOrder zeroPlace placeInOrder placeInOrderAt inOrder event namesRank namesPlace wrongKind wrongRank noMessage isDead notOutside isLiving isLast bothLive lateRefusal refusal firstRank firstRow freshState started byteAt shortAt numberAt eventAt eventsIn wrongMark wrongVersion broken header numberOf written told stepping steppedOn steppedRun refusedRun then file three mourned absent busy untold bereft late since unheard slice runs ended isQuiet allEntered allDeathsKnown allDecided shown knows witnesses
 the-tests-pass = refl
 
 -- ---- from the tests to the words
@@ -137,8 +138,8 @@ Tests =
     × (same (shown (ended bereft) 1) (0 ∷ 3 ∷ 12 ∷ 1 ∷ []) ≡ true)
     × (same (shown (ended bereft) 2) (1 ∷ 3 ∷ 14 ∷ 1 ∷ []) ≡ true)
     × (same (shown (ended bereft) 3) (1 ∷ 3 ∷ 14 ∷ 1 ∷ []) ≡ true)
-    × (eqb (started flat 1 .answer) 0 ≡ true)
-    × (eqb (event flat (started flat 1 .state) (eventOf 1 0 9) .answer) 0 ≡ true)
+    × (eqb (started flat 1 flatForm 1 .answer) 0 ≡ true)
+    × (eqb (event flat (started flat 1 flatForm 1 .state) (eventOf 1 0 9) .answer) 0 ≡ true)
     × (runs late ≡ true)
     × (same (shown (ended late) 0) (1 ∷ 3 ∷ 5 ∷ 1 ∷ []) ≡ true)
     × (same (knows (ended late) 0) (2 ∷ 0 ∷ 2 ∷ []) ≡ true)
@@ -313,9 +314,9 @@ a-death-that-the-verdict-does-not-know =
     (subst (λ (n : ℕ). Reaches flat n (ended unheard)) size-unheard (reached-end unheard (tests .34)), lives-with 3 (ended unheard) 1 4 0 (omega arith) (tests .35), k .0, k .2)
 
 -- A rank alone that enters 9: the run has its entry, and what it proposed.
-pub alone : Reaches flat 1 (event flat (started flat 1 .state) (eventOf 1 0 9) .state)
-alone = next (started flat 1 .state) (eventOf 1 0 9) (begun (eqb-true (started flat 1 .answer) 0 (tests .26))) (eqb-true (event flat (started flat 1 .state) (eventOf 1 0 9) .answer) 0 (tests .27))
+pub alone : Reaches flat 1 (event flat (started flat 1 flatForm 1 .state) (eventOf 1 0 9) .state)
+alone = next (started flat 1 flatForm 1 .state) (eventOf 1 0 9) (begun flatForm 1 (eqb-true (started flat 1 flatForm 1 .answer) 0 (tests .26))) (eqb-true (event flat (started flat 1 flatForm 1 .state) (eventOf 1 0 9) .answer) 0 (tests .27))
 
-pub a-word-is-entered : (hasEntered flat 1 (event flat (started flat 1 .state) (eventOf 1 0 9) .state) alone 0 ≡ true) × (proposalOf flat 1 (event flat (started flat 1 .state) (eventOf 1 0 9) .state) alone 0 .word ≡ 9)
+pub a-word-is-entered : (hasEntered flat 1 (event flat (started flat 1 flatForm 1 .state) (eventOf 1 0 9) .state) alone 0 ≡ true) × (proposalOf flat 1 (event flat (started flat 1 flatForm 1 .state) (eventOf 1 0 9) .state) alone 0 .word ≡ 9)
 unfolding hasEntered proposalOf proposal isEntry alone
 a-word-is-entered = (refl, refl)

@@ -23,11 +23,11 @@ isEntry ev i = eqb (ev .kind) 1 && eqb (ev .a) i
 -- Rank i entered in the run, and what it proposed on Enter: the word of the event, and its marks and acknowledged set of then. It is a fresh
 -- record's triple if it did not enter.
 unfoldable pub hasEntered : (anc : ℕ → ℕ) (n : ℕ) (s : State) → Reaches anc n s → ℕ → Bool
-hasEntered anc n s (begun z) i = false
+hasEntered anc n s (begun form span z) i = false
 hasEntered anc n s (next s′ ev run z) i = cond (isEntry ev i) true (hasEntered anc n s′ run i)
 
 unfoldable pub proposalOf : (anc : ℕ → ℕ) (n : ℕ) (s : State) → Reaches anc n s → ℕ → Triple
-proposalOf anc n s (begun z) i = freshTriple n
+proposalOf anc n s (begun form span z) i = freshTriple n
 proposalOf anc n s (next s′ ev run z) i = cond (isEntry ev i) (proposal (ev .b) (rankAt s′ i)) (proposalOf anc n s′ run i)
 
 -- What the members of a set below k propose, in a group of n: the AND of the words, the OR of the marks, the AND of the acknowledged sets.

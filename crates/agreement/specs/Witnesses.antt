@@ -7,6 +7,7 @@ use lib.Dec.{eqb}
 use lib.ListN.{replicate}
 use Rattle.sets.specs.Sets.{has, minus, every}
 use Rattle.tree.specs.Tree.{flat}
+use Rattle.tree.specs.Forms.{flatForm}
 use Rattle.tree.specs.Calls.{same}
 use Rattle.rank.specs.Words.{outside, decided}
 use Rattle.rank.specs.Triples.{code}
@@ -175,8 +176,8 @@ witnesses =
     ∷ same (shown (ended bereft) 2) (1 ∷ 3 ∷ 14 ∷ 1 ∷ [])
     ∷ same (shown (ended bereft) 3) (1 ∷ 3 ∷ 14 ∷ 1 ∷ [])
     -- a rank alone enters 9
-    ∷ eqb (started flat 1 .answer) 0
-    ∷ eqb (event flat (started flat 1 .state) (eventOf 1 0 9) .answer) 0
+    ∷ eqb (started flat 1 flatForm 1 .answer) 0
+    ∷ eqb (event flat (started flat 1 flatForm 1 .state) (eventOf 1 0 9) .answer) 0
     -- the verdict knows of rank 1's death, and nobody proposed it: the root's own triple has it not
     ∷ runs late
     ∷ same (shown (ended late) 0) (1 ∷ 3 ∷ 5 ∷ 1 ∷ [])

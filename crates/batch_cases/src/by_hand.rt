@@ -1,5 +1,6 @@
 // Changes by hand. 1 to 6 put any state of a right size out of order: 1 the count, 2 the dead, 3 the first rank's marks, 4 the last rank's
-// result, 5 the last message, 6 the last entry of the last table. 7 makes the size a wrong one. Any other number changes nothing.
+// result, 5 the last message, 6 the last entry of the last table. 7 makes the size a wrong one, 8 the form, 9 the box size. Any
+// other number changes nothing.
 use rank::Message;
 use rank::Rank;
 use rank::Triple;
@@ -52,6 +53,8 @@ fn group_after(g: Group, hand: u32) -> Group {
         1 => after.count = 200,
         2 => after.dead = u64::MAX,
         7 => after.n = 65,
+        8 => after.form = 3,
+        9 => after.span = 65,
         _ => {}
     }
     let ranks = g.ranks;

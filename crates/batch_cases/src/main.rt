@@ -2,8 +2,8 @@
 // The model of tests/model made the files stdin and stdout beside src/: random events, wild ones too, cut anywhere, with places enough and too few.
 //
 // The text is numbers, whatever stands between them. A case has
-//   SIZE HAND PLACES NUMBERS PARTS   the size of the group to start, what is changed by hand then (by_hand.rt), the answer places lent for the
-//                                    whole run, how many numbers it has, and into how many parts it is cut
+//   SIZE FORM BOX HAND PLACES NUMBERS PARTS   size, form and box size of the group to start, what is changed by hand then (by_hand.rt), the
+//                                    answer places lent for the whole run, how many numbers it has, and into how many parts it is cut
 //   NUMBERS PLACES ..                for each part: how many numbers it takes after those of the part before, and the places lent for them
 //   KIND A B ..                      the numbers of the run
 // and prints

@@ -121,14 +121,14 @@ fn compare(answer: u32, past: u32, state: State, t: Told) {
     verdict((answer == t.answer) & (past == t.past) & places.same & held.same);
 }
 
-fn start(size: u32, hand: u32) -> State {
-    let started = state::start(size);
+fn start(size: u32, form: u32, span: u32, hand: u32) -> State {
+    let started = state::start(size, form, span);
     let fresh = started.state;
     by_hand::after(fresh, hand)
 }
 
 pub fn play(numbers: &[u32], c: Case) {
-    let before = start(c.size, c.hand);
+    let before = start(c.size, c.form, c.span, c.hand);
     let mut places = [MARK; MOST];
     let ran = run(numbers, c.from, c.to, &mut places, c.places, before);
     let after = ran.state;

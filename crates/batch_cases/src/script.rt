@@ -3,6 +3,8 @@
 // A case: what its first line says, and where its lists begin and end.
 pub struct Case {
     pub size: u32,
+    pub form: u32,
+    pub span: u32,
     pub hand: u32,
     pub places: usize,
     pub count: usize,
@@ -89,14 +91,16 @@ pub fn length(numbers: &[u32], at: usize, more: usize) -> usize {
 
 // The case that begins at a place.
 pub fn case_at(numbers: &[u32], at: usize) -> Case {
-    let count = length(numbers, at, 3);
-    let parts = length(numbers, at, 4);
-    let list = plus(at, 5);
+    let count = length(numbers, at, 5);
+    let parts = length(numbers, at, 6);
+    let list = plus(at, 7);
     let from = plus(plus(list, parts), parts);
     Case {
         size: number(numbers, at),
-        hand: number(numbers, plus(at, 1)),
-        places: length(numbers, at, 2),
+        form: number(numbers, plus(at, 1)),
+        span: number(numbers, plus(at, 2)),
+        hand: number(numbers, plus(at, 3)),
+        places: length(numbers, at, 4),
         count,
         parts,
         list,

@@ -131,9 +131,11 @@ pub fn states(x: State, y: State) -> Sums {
     let g_net = g.net;
     let h_net = h.net;
     let size = take(none(), g.n as u32, h.n as u32);
-    let dead = take_long(size, g.dead, h.dead);
-    let count = take(dead, g.count as u32, h.count as u32);
-    let group = messages(ranks(count, g_ranks, h_ranks), g_net, h_net);
+    let form = take(size, g.form as u32, h.form as u32);
+    let span = take(form, g.span as u32, h.span as u32);
+    let count = take(span, g.count as u32, h.count as u32);
+    let dead = take_long(count, g.dead, h.dead);
+    let group = messages(ranks(dead, g_ranks, h_ranks), g_net, h_net);
     tables(group, state::tables_of(x), state::tables_of(y))
 }
 

@@ -1,5 +1,5 @@
 -- What a batch comes to, over any ancestor sets: `event` once for each event in turn, or nothing at all. Assumes nothing.
-use mathlib.Core.Path.{_≡_, refl, sym, ap, subst, _∙_}
+use mathlib.Core.Path.{_≡_, refl, sym, ap, ap₂, subst, _∙_}
 use mathlib.Core.Bool.{Bool, true, false, cond}
 use mathlib.Core.List.{List}
 use mathlib.Core.Logic.{_⊎_, inl, inr, ⊎-elim}
@@ -8,13 +8,15 @@ use native.Mathlib.Omega.{arith}
 use lib.ListN.{length, getD}
 use borrow.Author.Tests.{ltb-false}
 use Rattle.sets.proofs.Laws.Bools.{passes-or-fails, eq-or-ne}
+use Rattle.tree.specs.Forms.{treeOf}
 use Rattle.state.specs.declared.State.{State}
+use Rattle.state.specs.States.{ownTree}
 use Rattle.group.specs.Events.{event}
 use Rattle.group.specs.Reaching.{Reaches}
 use Rattle.playing.specs.Playing.{Run, eventIn, played}
 use Rattle.playing.specs.Reaching.{stateAfter, NumbersOf}
 use Rattle.playing.proofs.Laws.Playing.{played-answers, played-keeps}
-use Rattle.playing.proofs.Reaching.{after-played, numbers-played, after-reaches}
+use Rattle.playing.proofs.Reaching.{after-played, after-keeps-the-form, numbers-played, after-reaches}
 use Rattle.batches.specs.Batches.{eventsOf, uneven, tooShort, refusedBatch, batch}
 
 module _ (anc : ℕ → ℕ) (numbers out : List ℕ) (s : State) where
@@ -66,6 +68,10 @@ module _ (anc : ℕ → ℕ) (numbers out : List ℕ) (s : State) where
   places-past-stay z i l =
       taken (getD (batch anc numbers out s .answers) i 0 ≡ getD out i 0) z
       (λ r e. ap (λ (x : Run). getD (x .answers) i 0) e ∙ played-keeps anc (eventIn numbers) (eventsOf numbers) 0 s out i (inr (omega arith)))
+
+-- A batch is called in its state's form. Every state on the way has that form, so each event goes by its own state's.
+pub a-batch-keeps-the-form : (numbers : List ℕ) (s : State) (k : ℕ) → ownTree (stateAfter (ownTree s) (eventIn numbers) s k) ≡ ownTree s
+a-batch-keeps-the-form numbers s k = let e = after-keeps-the-form (ownTree s) (eventIn numbers) s k in ap₂ treeOf (e .0) (e .1)
 
 -- ---- a state of the group
 

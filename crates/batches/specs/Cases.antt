@@ -6,6 +6,7 @@ use mathlib.Core.List.{List, [], _∷_}
 use lib.Dec.{eqb}
 use lib.ListN.{replicate}
 use Rattle.tree.specs.Tree.{flat}
+use Rattle.tree.specs.Forms.{flatForm}
 use Rattle.tree.specs.Calls.{same}
 use Rattle.state.specs.declared.State.{State}
 use Rattle.state.specs.States.{joined, rankAt}
@@ -19,10 +20,10 @@ leaves r number places = eqb (r .answer) number && same (r .answers) places
 
 -- Three ranks; the same with a message counted that is not there.
 unfoldable pub three : State
-three = freshState flat 3
+three = freshState flat 3 flatForm 1
 
 unfoldable pub miscounted : State
-miscounted = joined (record { n = 3; dead = 0; count = 1; ranks = three .group .ranks; net = three .group .net }) (three .tables)
+miscounted = joined (record { n = 3; form = flatForm; span = 1; count = 1; dead = 0; ranks = three .group .ranks; net = three .group .net }) (three .tables)
 
 -- Document 01's example, with room for one event more.
 unfoldable pub example : Run

@@ -4,7 +4,7 @@ use state::State;
 ghost use mathlib.Core.Path.{_≡_};
 ghost use Prim.Native.Nat.{_*_, _≤_};
 ghost use lib.ListN.{length};
-ghost use Rattle.tree.specs.Tree.{flat};
+ghost use Rattle.state.specs.States.{ownTree};
 ghost use Rattle.playing.specs.Playing.{eventIn, played, spelt};
 ghost use Rattle.batches.specs.Batches.{batch, refusedEach};
 
@@ -38,8 +38,8 @@ fn refuse_each(number: u32, total: usize, out: &mut [u32])
 fn step_each(events: &[u32], total: usize, out: &mut [u32], s: State) -> State
     requires { ⌜ 3 * total ≤ length (now events) ⌝ }
     requires { ⌜ 3 * total ≤ length (now out) ⌝ }
-    ensures { λ r. ⌜ r ≡ played flat (eventIn (now (events .entry))) total 0 s (now (out .entry)) .state ⌝ }
-    ensures { λ r. ⌜ now (out .exit) ≡ played flat (eventIn (now (events .entry))) total 0 s (now (out .entry)) .answers ⌝ }
+    ensures { λ r. ⌜ r ≡ played (ownTree s) (eventIn (now (events .entry))) total 0 s (now (out .entry)) .state ⌝ }
+    ensures { λ r. ⌜ now (out .exit) ≡ played (ownTree s) (eventIn (now (events .entry))) total 0 s (now (out .entry)) .answers ⌝ }
 {
     let g = s.group;
     if tree::wrong_size(g.n as u32) {
@@ -56,9 +56,9 @@ fn step_each(events: &[u32], total: usize, out: &mut [u32], s: State) -> State
 
 // A batch on a state by value. Refuses with 40 and 41.
 fn handle(events: &[u32], out: &mut [u32], s: State) -> Ran
-    ensures { λ r. ⌜ r .answer ≡ batch flat (now (events .entry)) (now (out .entry)) s .answer ⌝ }
-    ensures { λ r. ⌜ r .state ≡ batch flat (now (events .entry)) (now (out .entry)) s .state ⌝ }
-    ensures { λ r. ⌜ now (out .exit) ≡ batch flat (now (events .entry)) (now (out .entry)) s .answers ⌝ }
+    ensures { λ r. ⌜ r .answer ≡ batch (ownTree s) (now (events .entry)) (now (out .entry)) s .answer ⌝ }
+    ensures { λ r. ⌜ r .state ≡ batch (ownTree s) (now (events .entry)) (now (out .entry)) s .state ⌝ }
+    ensures { λ r. ⌜ now (out .exit) ≡ batch (ownTree s) (now (events .entry)) (now (out .entry)) s .answers ⌝ }
 {
     if events.len() % 3 != 0 {
         return Ran {
@@ -80,11 +80,11 @@ fn handle(events: &[u32], out: &mut [u32], s: State) -> Ran
     }
 }
 
-// Entry point: events by the handful on the state that the caller lends. Writes answer, sent and moved's count for each event.
+// Entry point: events by the handful on the state that the caller lends, in that state's form. Writes answer, sent and moved's count for each event.
 pub fn batch(events: &[u32], out: &mut [u32], s: &mut State) -> u32
-    ensures { λ r. ⌜ r ≡ batch flat (now (events .entry)) (now (out .entry)) (now (s .entry)) .answer ⌝ }
-    ensures { λ r. ⌜ now (s .exit) ≡ batch flat (now (events .entry)) (now (out .entry)) (now (s .entry)) .state ⌝ }
-    ensures { λ r. ⌜ now (out .exit) ≡ batch flat (now (events .entry)) (now (out .entry)) (now (s .entry)) .answers ⌝ }
+    ensures { λ r. ⌜ r ≡ batch (ownTree (now (s .entry))) (now (events .entry)) (now (out .entry)) (now (s .entry)) .answer ⌝ }
+    ensures { λ r. ⌜ now (s .exit) ≡ batch (ownTree (now (s .entry))) (now (events .entry)) (now (out .entry)) (now (s .entry)) .state ⌝ }
+    ensures { λ r. ⌜ now (out .exit) ≡ batch (ownTree (now (s .entry))) (now (events .entry)) (now (out .entry)) (now (s .entry)) .answers ⌝ }
 {
     let x = *s;
     let r = handle(events, out, x);
@@ -94,9 +94,9 @@ pub fn batch(events: &[u32], out: &mut [u32], s: &mut State) -> u32
 
 // The same for a caller that holds a state by value: its copy is lent to batch.
 pub fn lend(events: &[u32], out: &mut [u32], s: State) -> Ran
-    ensures { λ r. ⌜ r .answer ≡ batch flat (now (events .entry)) (now (out .entry)) s .answer ⌝ }
-    ensures { λ r. ⌜ r .state ≡ batch flat (now (events .entry)) (now (out .entry)) s .state ⌝ }
-    ensures { λ r. ⌜ now (out .exit) ≡ batch flat (now (events .entry)) (now (out .entry)) s .answers ⌝ }
+    ensures { λ r. ⌜ r .answer ≡ batch (ownTree s) (now (events .entry)) (now (out .entry)) s .answer ⌝ }
+    ensures { λ r. ⌜ r .state ≡ batch (ownTree s) (now (events .entry)) (now (out .entry)) s .state ⌝ }
+    ensures { λ r. ⌜ now (out .exit) ≡ batch (ownTree s) (now (events .entry)) (now (out .entry)) s .answers ⌝ }
 {
     let mut x = s;
     let answer = batch(events, out, &mut x);

@@ -27,7 +27,7 @@ fn put_node_line(text: &mut [u8], at: usize, marks: u64, p: u8) -> usize
         return at;
     }
     let end = put_number(text, at, p as u32);
-    if tree::parent_of(marks, p) == sets::NONE {
+    if tree::parent_of(tree::FLAT, 1, marks, p) == sets::NONE {
         return put_letters(text, end, b" [shape=box];\n");
     }
     put_letters(text, end, b";\n")
@@ -50,7 +50,7 @@ fn put_edge_line(text: &mut [u8], at: usize, marks: u64, p: u8) -> usize
     requires { ⌜ p < 64 ⌝ }
     ensures { λ r. ⌜ Wrote (now (text .entry)) at (edgeLine marks p) (now (text .exit)) r ⌝ }
 {
-    let up = tree::parent_of(marks, p);
+    let up = tree::parent_of(tree::FLAT, 1, marks, p);
     if sets::member(marks, p) | (up == sets::NONE) {
         return at;
     }

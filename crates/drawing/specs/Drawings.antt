@@ -5,7 +5,6 @@ use mathlib.Core.Bool.{cond}
 use mathlib.Core.List.{List, []}
 use lib.Dec.{eqb}
 use Rattle.sets.specs.Sets.{has}
-use Rattle.tree.specs.Tree.{flat}
 use Rattle.state.specs.declared.State.{State}
 use Rattle.state.specs.States.{rankAt}
 use Rattle.text.specs.Text.{lines}
@@ -27,7 +26,7 @@ unfoldable pub drawingOf : Run → List ℕ
 drawingOf r = cond (eqb (r .answer) 0) (rankPictures (r .state)) (refusedLine (r .answer))
 
 unfoldable pub drawing : List ℕ → List ℕ → List ℕ
-drawing file out = drawingOf (run flat file out)
+drawing file out = drawingOf (run file out)
 
 -- What the caller lends to draw: room for 64 pictures.
 abbrev pub drawingRoom : ℕ

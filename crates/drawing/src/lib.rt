@@ -6,7 +6,6 @@ use state::State;
 ghost use mathlib.Core.Path.{_≡_};
 ghost use Prim.Native.Nat.{_+_, _<_, _≤_};
 ghost use lib.ListN.{getD, length, take};
-ghost use Rattle.tree.specs.Tree.{flat};
 ghost use Rattle.state.specs.States.{zeroRank};
 ghost use Rattle.text.specs.Text.{Wrote, lines};
 ghost use Rattle.schedule.specs.Runs.{run};
@@ -62,7 +61,7 @@ pub fn report(file: &[u8], got: usize, answers: &mut [u32], text: &mut [u8]) -> 
     requires { ⌜ answersRoom ≤ length (now answers) ⌝ }
     requires { ⌜ drawingRoom ≤ length (now text) ⌝ }
     ensures { λ r. ⌜ Wrote (now (text .entry)) 0 (drawing (take got (now (file .entry))) (now (answers .entry))) (now (text .exit)) r ⌝ }
-    ensures { λ r. ⌜ now (answers .exit) ≡ run flat (take got (now (file .entry))) (now (answers .entry)) .answers ⌝ }
+    ensures { λ r. ⌜ now (answers .exit) ≡ run (take got (now (file .entry))) (now (answers .entry)) .answers ⌝ }
 {
     let ran = schedule::run(&file[..got], answers);
     if ran.answer != 0 {

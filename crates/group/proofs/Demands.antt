@@ -1,25 +1,29 @@
 -- Demand 3 as theorems over the states that a group can be in: from an accepted start, by accepted events. Every such state is in order
--- (`Laws/Reached`), and what holds of any state in order is in `Laws/Moving` and `Laws/Answering`. Over any ancestor sets, save the last.
+-- (`Laws/Reached`), and what holds of any state in order is in `Laws/Moving` and `Laws/Answering`. Over any ancestor sets, and the
+-- climb in the state's own form.
 -- Assumes nothing.
-use mathlib.Core.Path.{_≡_, sym, ap, subst}
+use mathlib.Core.Path.{_≡_, sym, ap, subst, _∙_}
 use mathlib.Core.Bool.{true, false, _||_}
 use Prim.Native.Nat.{ℕ, _^_, _≤_, _<_}
 use native.Mathlib.Nat.{le-trans}
 use native.Mathlib.Omega.{arith}
 use lib.ListN.{getD}
 use Rattle.sets.specs.Sets.{has, add, union, below, count}
-use Rattle.tree.specs.Tree.{flat, fresh, endedAt, links, reached, IsRoot, digits}
+use Rattle.tree.specs.Tree.{ancestorCount, fresh, endedAt, links, reached, IsRoot, digits}
+use Rattle.tree.specs.Forms.{flatForm, treeOf}
 use Rattle.tree.specs.Calls.{Told, climbed}
 use Rattle.tree.proofs.Laws.Mending.{moved-size}
-use Rattle.tree.proofs.Laws.Climbing.{path-ends, one-root, digits-enough, digits-least, climb-within-digits}
-use Rattle.tree.proofs.Laws.Calls.{climb-whole}
+use Rattle.tree.proofs.Laws.Forms.{form-ancestry, form-rooted, flat-form}
+use Rattle.tree.proofs.Laws.Climbing.{links-bound, path-ends, one-root, digits-enough, digits-least, flat-within-digits}
+use Rattle.tree.proofs.Laws.Calls.{Shapely, climb-whole}
 use Rattle.rank.specs.Words.{ask}
 use Rattle.rank.specs.Records.{awaiting}
 use Rattle.events.specs.declared.Event.{Event}
 use Rattle.events.specs.Events.{eventOf}
 use Rattle.state.specs.declared.State.{State}
-use Rattle.state.specs.States.{rankAt, rowAt, placeAt}
+use Rattle.state.specs.States.{rankAt, rowAt, placeAt, ownTree}
 use Rattle.order.specs.Between.{InOrder}
+use Rattle.order.proofs.Laws.Ordering.{in-order-facts}
 use Rattle.group.specs.Events.{event}
 use Rattle.group.specs.Reaching.{Reaches, MovesExactly, AskMoves, endedAtSome}
 use Rattle.group.proofs.Laws.Reached.{reached-small, reached-in-order, reached-size, reached-inside, reached-member}
@@ -111,6 +115,46 @@ module _ (anc : ℕ → ℕ) (n : ℕ) (s : State) (run : Reaches anc n s) (a b 
 
 -- ---- the climb
 
+-- In the form that the state has, in any rank's view, from any rank p not known dead, with as many links as p has ancestors, or more.
+module _ (n : ℕ) (s : State) (run : Reaches (ownTree s) n s) (i p allowance : ℕ) (l : i < n) (b : p < n) (free : has (rankAt s i .marks) p ≡ false) (enough : ancestorCount (ownTree s) p ≤ allowance) where
+  abbrev anc : ℕ → ℕ
+  anc = ownTree s
+
+  shape : Shapely n (s .group .form) (s .group .span)
+  shape = subst (λ (m : ℕ). Shapely m (s .group .form) (s .group .span)) (reached-size anc n s run) (in-order-facts anc s (reached-in-order anc n s run) .shape)
+
+  short : links anc (rankAt s i .marks) p ≤ ancestorCount anc p
+  short = links-bound anc (form-ancestry _ _) (form-rooted _ _) (rankAt s i .marks) p (let m : n ≤ 64 = shape .small in omega arith)
+
+  whole : climbed n (s .group .form) (s .group .span) (rankAt s i .marks) p allowance ≡ record { number = 0; rank = reached anc (rankAt s i .marks) p (links anc (rankAt s i .marks) p); climbed = links anc (rankAt s i .marks) p }
+  whole = climb-whole n (s .group .form) (s .group .span) (rankAt s i .marks) p allowance shape (reached-member anc n s run i l .in-order .to-settle .marks-in .inside) b free (le-trans short enough)
+
+  -- The climb is accepted.
+  pub a-climb-is-accepted : climbed n (s .group .form) (s .group .span) (rankAt s i .marks) p allowance .number ≡ 0
+  a-climb-is-accepted = ap (λ (t : Told). t .number) whole
+
+  -- It takes no more links than the rank has ancestors.
+  pub a-climb-is-short : climbed n (s .group .form) (s .group .span) (rankAt s i .marks) p allowance .climbed ≤ ancestorCount (ownTree s) p
+  a-climb-is-short = subst (λ (t : Told). t .climbed ≤ ancestorCount (ownTree s) p) (sym whole) short
+
+  -- It answers a root of the view: an unmarked rank without a parent.
+  pub a-climb-ends-at-a-root : IsRoot (ownTree s) n (rankAt s i .marks) (climbed n (s .group .form) (s .group .span) (rankAt s i .marks) p allowance .rank)
+  a-climb-ends-at-a-root = subst (λ (t : Told). IsRoot anc n (rankAt s i .marks) (t .rank)) (sym whole) (path-ends anc n (rankAt s i .marks) p b free)
+
+-- A view has one root.
+pub a-view-has-one-root : (anc : ℕ → ℕ) (n : ℕ) (s : State) → Reaches anc n s → (i q r : ℕ) → IsRoot anc n (rankAt s i .marks) q → IsRoot anc n (rankAt s i .marks) r → q ≡ r
+a-view-has-one-root anc n s run i q r = one-root anc n (rankAt s i .marks) q r (let small : n ≤ 64 = reached-small anc n s run .1 in omega arith)
+
+-- So every climb in that view ends at the same rank.
+pub every-climb-ends-there : (n : ℕ) (s : State) → Reaches (ownTree s) n s → (i : ℕ) → i < n → (p q m k : ℕ) → p < n → q < n → has (rankAt s i .marks) p ≡ false → has (rankAt s i .marks) q ≡ false
+    → ancestorCount (ownTree s) p ≤ m → ancestorCount (ownTree s) q ≤ k
+    → climbed n (s .group .form) (s .group .span) (rankAt s i .marks) p m .rank ≡ climbed n (s .group .form) (s .group .span) (rankAt s i .marks) q k .rank
+every-climb-ends-there n s run i l p q m k a b f g x y =
+    a-view-has-one-root (ownTree s) n s run i (climbed n (s .group .form) (s .group .span) (rankAt s i .marks) p m .rank) (climbed n (s .group .form) (s .group .span) (rankAt s i .marks) q k .rank)
+    (a-climb-ends-at-a-root n s run i p m l a f x) (a-climb-ends-at-a-root n s run i q k l b g y)
+
+-- ---- the flat form
+
 -- The digits of a rank's number: the least d with the number below 2 ^ d.
 pub digits-are-enough : (p : ℕ) → p < 2 ^ digits p
 digits-are-enough = digits-enough
@@ -118,36 +162,12 @@ digits-are-enough = digits-enough
 pub digits-are-least : (p d : ℕ) → p < 2 ^ d → digits p ≤ d
 digits-are-least = digits-least
 
--- In the flat tree, in any rank's view, from any rank p not known dead, with as many links as its number has binary digits, or more.
-module _ (n : ℕ) (s : State) (run : Reaches flat n s) (i p allowance : ℕ) (l : i < n) (b : p < n) (free : has (rankAt s i .marks) p ≡ false) (enough : digits p ≤ allowance) where
-  small : (0 < n) × (n ≤ 64)
-  small = reached-small flat n s run
+-- In the flat form a rank has no more ancestors than its number has binary digits, so as many links are enough for a climb, and it takes no more.
+pub flat-ancestors-are-few : (s : State) → s .group .form ≡ flatForm → (p : ℕ) → ancestorCount (ownTree s) p ≤ digits p
+flat-ancestors-are-few s e p = subst (λ (anc : ℕ → ℕ). ancestorCount anc p ≤ digits p) (sym (ap (λ (f : ℕ). treeOf f (s .group .span)) e ∙ flat-form (s .group .span))) (flat-within-digits p)
 
-  short : links flat (rankAt s i .marks) p ≤ digits p
-  short = climb-within-digits (rankAt s i .marks) p (let m : n ≤ 64 = small .1 in omega arith)
-
-  whole : climbed flat n (rankAt s i .marks) p allowance ≡ record { number = 0; rank = reached flat (rankAt s i .marks) p (links flat (rankAt s i .marks) p); climbed = links flat (rankAt s i .marks) p }
-  whole = climb-whole flat n (rankAt s i .marks) p allowance (small .0) (small .1) (reached-member flat n s run i l .in-order .to-settle .marks-in .inside) b free (le-trans short enough)
-
-  -- The climb is accepted.
-  pub a-climb-is-accepted : climbed flat n (rankAt s i .marks) p allowance .number ≡ 0
-  a-climb-is-accepted = ap (λ (t : Told). t .number) whole
-
-  -- It takes no more links than the rank's number has binary digits.
-  pub a-climb-is-short : climbed flat n (rankAt s i .marks) p allowance .climbed ≤ digits p
-  a-climb-is-short = subst (λ (t : Told). t .climbed ≤ digits p) (sym whole) short
-
-  -- It answers a root of the view: an unmarked rank without a parent.
-  pub a-climb-ends-at-a-root : IsRoot flat n (rankAt s i .marks) (climbed flat n (rankAt s i .marks) p allowance .rank)
-  a-climb-ends-at-a-root = subst (λ (t : Told). IsRoot flat n (rankAt s i .marks) (t .rank)) (sym whole) (path-ends flat n (rankAt s i .marks) p b free)
-
--- A view has one root.
-pub a-view-has-one-root : (anc : ℕ → ℕ) (n : ℕ) (s : State) → Reaches anc n s → (i q r : ℕ) → IsRoot anc n (rankAt s i .marks) q → IsRoot anc n (rankAt s i .marks) r → q ≡ r
-a-view-has-one-root anc n s run i q r = one-root anc n (rankAt s i .marks) q r (let small : n ≤ 64 = reached-small anc n s run .1 in omega arith)
-
--- So every climb in that view ends at the same rank.
-pub every-climb-ends-there : (n : ℕ) (s : State) → Reaches flat n s → (i : ℕ) → i < n → (p q m k : ℕ) → p < n → q < n → has (rankAt s i .marks) p ≡ false → has (rankAt s i .marks) q ≡ false → digits p ≤ m → digits q ≤ k
-    → climbed flat n (rankAt s i .marks) p m .rank ≡ climbed flat n (rankAt s i .marks) q k .rank
-every-climb-ends-there n s run i l p q m k a b f g x y =
-    a-view-has-one-root flat n s run i (climbed flat n (rankAt s i .marks) p m .rank) (climbed flat n (rankAt s i .marks) q k .rank)
-    (a-climb-ends-at-a-root n s run i p m l a f x) (a-climb-ends-at-a-root n s run i q k l b g y)
+pub a-flat-climb-is-short : (n : ℕ) (s : State) → Reaches (ownTree s) n s → s .group .form ≡ flatForm → (i p allowance : ℕ) → i < n → p < n → has (rankAt s i .marks) p ≡ false → digits p ≤ allowance
+    → (climbed n (s .group .form) (s .group .span) (rankAt s i .marks) p allowance .number ≡ 0) × (climbed n (s .group .form) (s .group .span) (rankAt s i .marks) p allowance .climbed ≤ digits p)
+a-flat-climb-is-short n s run e i p allowance l b free enough =
+    let few = flat-ancestors-are-few s e p in
+    (a-climb-is-accepted n s run i p allowance l b free (le-trans few enough), le-trans (a-climb-is-short n s run i p allowance l b free (le-trans few enough)) few)

@@ -11,8 +11,9 @@ use lib.ListN.{length}
 use Rattle.sets.specs.Sets.{has, add}
 use Rattle.sets.proofs.Laws.Bools.{clash}
 use Rattle.tree.specs.Tree.{moved, nobody}
-use Rattle.tree.specs.Calls.{movedBelow}
+use Rattle.tree.specs.Calls.{misshapen, movedBelow}
 use Rattle.tree.specs.Relations.{Ancestry}
+use Rattle.tree.proofs.Laws.Calls.{shapely}
 use Rattle.rank.specs.declared.Acted.{Acted}
 use Rattle.rank.specs.Words.{ask}
 use Rattle.rank.specs.Records.{admitting}
@@ -44,8 +45,8 @@ use Rattle.group.proofs.Laws.Answering.{notice-answers, ask-answers}
 -- ---- order
 
 -- A fresh group is in order.
-pub a-fresh-group-is-in-order : (anc : ℕ → ℕ) (n : ℕ) → 0 < n → n ≤ 64 → InOrder anc (freshState anc n)
-a-fresh-group-is-in-order = fresh-in-order
+pub a-fresh-group-is-in-order : (anc : ℕ → ℕ) (n form span : ℕ) → misshapen n form span ≡ 0 → InOrder anc (freshState anc n form span)
+a-fresh-group-is-in-order anc n form span e = fresh-in-order anc n form span (shapely n form span e)
 
 -- An event on a state in order gives a state in order.
 pub an-event-keeps-order : (anc : ℕ → ℕ) (s : State) (ev : Event) → InOrder anc s → InOrder anc (event anc s ev .state)
@@ -54,7 +55,7 @@ an-event-keeps-order = event-keeps-order
 -- ---- refused events
 
 -- Any event on a refused start is refused with 1.
-pub a-refused-start-takes-no-event : (anc : ℕ → ℕ) (n : ℕ) (ev : Event) → (started anc n .answer ≡ 0 → ⊥) → event anc (started anc n .state) ev ≡ refused 1 (started anc n .state)
+pub a-refused-start-takes-no-event : (anc : ℕ → ℕ) (n form span : ℕ) (along : ℕ → ℕ) (ev : Event) → (started anc n form span .answer ≡ 0 → ⊥) → event along (started anc n form span .state) ev ≡ refused 1 (started anc n form span .state)
 a-refused-start-takes-no-event = event-on-none
 
 -- A refused event, on any state, gives its number, sent 0, moved 0, of nobody, and the state unchanged in every field.

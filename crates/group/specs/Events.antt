@@ -29,8 +29,10 @@ applied s place me p =
     joined
     (record {
       n = s .group .n;
-      dead = cond (p .dies) (add (s .group .dead) me) (s .group .dead);
+      form = s .group .form;
+      span = s .group .span;
       count = placed (posted (flying s) place me p) .count;
+      dead = cond (p .dies) (add (s .group .dead) me) (s .group .dead);
       ranks = set (s .group .ranks) me (p .acted .rank);
       net = placed (posted (flying s) place me p) .net;
     })

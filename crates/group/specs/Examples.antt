@@ -4,6 +4,7 @@ use mathlib.Core.Bool.{Bool, _&&_}
 use mathlib.Core.List.{List, [], _∷_, _++_}
 use lib.Dec.{eqb}
 use Rattle.tree.specs.Tree.{flat}
+use Rattle.tree.specs.Forms.{flatForm}
 use Rattle.tree.specs.Examples as Tree
 use Rattle.rank.specs.Words.{decided}
 use Rattle.events.specs.Events.{eventOf}
@@ -17,7 +18,7 @@ answers r number sent = eqb (r .answer) number && eqb (r .sent) sent
 
 -- one rank that enters with 9
 unfoldable pub alone : Stepped
-alone = event flat (started flat 1 .state) (eventOf 1 0 9)
+alone = event flat (started flat 1 flatForm 1 .state) (eventOf 1 0 9)
 
 unfoldable pub examples : List Bool
 examples =
@@ -27,5 +28,5 @@ examples =
     ++ (answers alone 0 0 ∷ eqb (rankAt (alone .state) 0 .phase) decided ∷ eqb (rankAt (alone .state) 0 .result .word) 9
     ∷ eqb (event flat (alone .state) (eventOf 3 0 0) .answer) 9
     -- 9. Sizes 0 and 65: 1; 64 accepted.
-    ∷ eqb (started flat 0 .answer) 1 ∷ eqb (started flat 65 .answer) 1 ∷ eqb (started flat 64 .answer) 0
+    ∷ eqb (started flat 0 flatForm 1 .answer) 1 ∷ eqb (started flat 65 flatForm 1 .answer) 1 ∷ eqb (started flat 64 flatForm 1 .answer) 0
     ∷ [])

@@ -3,3 +3,4 @@ pub mod Changes
 pub mod Between
 pub mod Reaching
 pub mod Examples
+pub mod Cases

@@ -7,16 +7,33 @@ use lib.Dec.{eqb}
 use lib.ListN.{getD}
 use Rattle.sets.specs.Sets.{has, add, union, below, some}
 use Rattle.tree.specs.Tree.{fresh, endedAt}
+use Rattle.tree.specs.Forms.{treeOf}
 use Rattle.tree.specs.Refusals.{accepted}
 use Rattle.events.specs.declared.Event.{Event}
 use Rattle.state.specs.declared.State.{State}
+use Rattle.state.specs.States.{ownTree, withBox}
 use Rattle.state.specs.Starting.{started}
+use Rattle.group.specs.declared.Stepped.{Stepped}
 use Rattle.group.specs.Events.{event}
 
--- A run of the group: from an accepted start of size n, by accepted events.
+-- A run of a group of n along any ancestor sets: from an accepted start, by accepted events.
 pub data Reaches (anc : ℕ → ℕ) (n : ℕ) : State → Type 0 where
-  begun : started anc n .answer ≡ accepted → Reaches anc n (started anc n .state)
+  begun : (form span : ℕ) → started anc n form span .answer ≡ accepted → Reaches anc n (started anc n form span .state)
   next : (s : State) (ev : Event) → Reaches anc n s → event anc s ev .answer ≡ accepted → Reaches anc n (event anc s ev .state)
+
+-- A run of the calls themselves, which take no ancestor sets: an accepted start in a form with a box size, and accepted events, each in the form
+-- that its state has. It is a run along that form's ancestor sets (`the-calls-run-in-their-form`).
+pub data Runs (n form span : ℕ) : State → Type 0 where
+  starts : started (treeOf form span) n form span .answer ≡ accepted → Runs n form span (started (treeOf form span) n form span .state)
+  goes : (s : State) (ev : Event) → Runs n form span s → event (ownTree s) s ev .answer ≡ accepted → Runs n form span (event (ownTree s) s ev .state)
+
+-- Two states have one form and one box size.
+abbrev pub SameForm : State → State → Type 0
+SameForm t s = (t .group .form ≡ s .group .form) × (t .group .span ≡ s .group .span)
+
+-- What an event answers, with another box size in its state.
+abbrev pub reboxed : ℕ → Stepped → Stepped
+reboxed span r = record { answer = r .answer; sent = r .sent; moved = r .moved; state = withBox span (r .state) }
 
 -- From one table to the next exactly the links that ended at q have moved: for every rank p below n, its entry differs where it was q,
 -- and nowhere else.

@@ -10,9 +10,9 @@ ghost use mathlib.Core.Bool.{cond, true};
 ghost use Prim.Native.Nat.{_+_, _-_, _<_, _≤_};
 ghost use lib.ListN.{take};
 ghost use Rattle.sets.specs.Sets.{add};
-ghost use Rattle.tree.specs.Tree.{flat};
 ghost use Rattle.rank.specs.Sends.{size};
 ghost use Rattle.net.specs.Net.{messagesOf, padded, placed, Small};
+ghost use Rattle.state.specs.States.{ownTree};
 ghost use Rattle.order.specs.Between.{InOrder};
 ghost use Rattle.group.specs.Events.{applied, event, planOf, posted, refused, stepped, subjectOf};
 ghost use Rattle.group.specs.Between.{Carriable};
@@ -47,8 +47,8 @@ fn subject_of(s: State, ev: Event) -> u8
 
 // What an event on a state in order will change.
 fn plan_of(s: State, ev: Event) -> Plan
-    requires { ⌜ InOrder flat s ⌝ }
-    ensures { λ t. ⌜ t ≡ planOf flat s ev ⌝ }
+    requires { ⌜ InOrder (ownTree s) s ⌝ }
+    ensures { λ t. ⌜ t ≡ planOf (ownTree s) s ev ⌝ }
 {
     let g = s.group;
     let net = g.net;
@@ -58,6 +58,8 @@ fn plan_of(s: State, ev: Event) -> Plan
     let tables = state::tables_of(s);
     plans::plan_event(
         g.n,
+        g.form,
+        g.span,
         g.dead,
         g.count,
         ev,
@@ -104,8 +106,10 @@ fn carry(s: State, place: u32, me: u8, p: Plan) -> State
     tables[me as usize] = row;
     let group = Group {
         n: g.n,
-        dead: buried(g.dead, me, p.dies),
+        form: g.form,
+        span: g.span,
         count: after.count,
+        dead: buried(g.dead, me, p.dies),
         ranks,
         net: net::messages(net, after.count),
     };
@@ -126,8 +130,8 @@ fn refused(answer: u32, s: State) -> Stepped
 
 // One event on a state in order.
 pub fn step(s: State, ev: Event) -> Stepped
-    requires { ⌜ InOrder flat s ⌝ }
-    ensures { λ t. ⌜ t ≡ stepped flat s ev ⌝ }
+    requires { ⌜ InOrder (ownTree s) s ⌝ }
+    ensures { λ t. ⌜ t ≡ stepped (ownTree s) s ev ⌝ }
 {
     let p = plan_of(s, ev);
     if p.answer != 0 {
@@ -145,9 +149,9 @@ pub fn step(s: State, ev: Event) -> Stepped
     }
 }
 
-// Entry point: one event on a state handed in. Refuses with 1 to 11.
+// Entry point: one event on a state handed in, in the state's own form. Refuses with 1 to 11.
 pub fn event(s: State, ev: Event) -> Stepped
-    ensures { λ t. ⌜ t ≡ event flat s ev ⌝ }
+    ensures { λ t. ⌜ t ≡ event (ownTree s) s ev ⌝ }
 {
     let g = s.group;
     if tree::wrong_size(g.n as u32) {

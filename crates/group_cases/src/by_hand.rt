@@ -1,4 +1,4 @@
-// Changes by hand: c the count, d the dead, n a message (kind, from, to, a triple and its place), t a table's entry (whose, of whom, the
+// Changes by hand: c the count, d the dead, i the form, x the box size, n a message (kind, from, to, a triple and its place), t a table's entry (whose, of whom, the
 // parent), and of a rank (which, what) p phase, m marks, k acknowledged, h heard, a awaited, o owed, w triple, v result. A triple is a word,
 // the known dead and an acknowledged set. Any other byte changes nothing.
 use super::script::Reader;
@@ -81,6 +81,12 @@ fn group_after(g: Group, r: Reader, b: u8) -> Group {
     }
     if b == b'd' {
         after.dead = r.z as u64;
+    }
+    if b == b'i' {
+        after.form = small(r.z);
+    }
+    if b == b'x' {
+        after.span = small(r.z);
     }
     let ranks = g.ranks;
     let new_ranks = ranks_after(ranks, r, b);

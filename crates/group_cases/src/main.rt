@@ -10,7 +10,7 @@ use libc::STDIN_FILENO;
 
 // Prints the script, and obeys its commands as they come.
 fn play(text: &[u8]) {
-    let mut t = obey::start(0);
+    let mut t = obey::start(0, 0, 1);
     let mut totals = script::nothing();
     let mut r = script::begin();
     let mut k = 0;

@@ -1,4 +1,5 @@
-// The commands that act: s starts a group of the last number, e is an event of the last three, any other changes the state by hand.
+// The commands that act: s starts a group of the last number in the flat form with box size 1, f one of the last three, a size, a form and a
+// box size; e is an event of the last three, any other changes the state by hand.
 use super::by_hand;
 use super::script::Reader;
 use events::Event;
@@ -6,8 +7,8 @@ use group::Stepped;
 use state::State;
 use tree::Moved;
 
-pub fn start(n: u32) -> Stepped {
-    let r = state::start(n);
+pub fn start(n: u32, form: u32, span: u32) -> Stepped {
+    let r = state::start(n, form, span);
     let state = r.state;
     Stepped {
         answer: r.answer,
@@ -31,7 +32,8 @@ pub fn obey(t: Stepped, r: Reader, b: u8) -> Stepped {
         b: r.z,
     };
     match b {
-        b's' => start(r.z),
+        b's' => start(r.z, 0, 1),
+        b'f' => start(r.x, r.y, r.z),
         b'e' => group::event(s, ev),
         _ => with_state(t, by_hand::after(s, r, b)),
     }

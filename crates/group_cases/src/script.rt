@@ -46,7 +46,7 @@ pub fn nothing() -> Totals {
 
 // The totals after a command.
 pub fn count(t: Totals, b: u8, answer: u32, sent: u32, moved: u32) -> Totals {
-    if b == b's' {
+    if (b == b's') | (b == b'f') {
         return nothing();
     }
     if (b != b'e') | (answer != 0) {

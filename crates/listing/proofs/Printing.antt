@@ -31,31 +31,31 @@ listing-same events a b s t e h =
     rw (e, l)
 
 -- What is reported does not depend on what the slice held, or on its length where it has room for the most events.
-pub report-of-the-file : (file a b : List ℕ) → answersRoom ≤ length a → answersRoom ≤ length b → report flat file a ≡ report flat file b
+pub report-of-the-file : (file a b : List ℕ) → answersRoom ≤ length a → answersRoom ≤ length b → report file a ≡ report file b
 unfolding report reportOf
-report-of-the-file file a b ra rb = ⊎-elim accepted refused (eq-or-ne (run flat file a .answer) 0)
+report-of-the-file file a b ra rb = ⊎-elim accepted refused (eq-or-ne (run file a .answer) 0)
   where
-    accepted : run flat file a .answer ≡ 0 → report flat file a ≡ report flat file b
+    accepted : run file a .answer ≡ 0 → report file a ≡ report file b
     accepted z =
         let s = same-run file a b ra rb in
-        rw (eq-eqb (run flat file a .answer) 0 z, eq-eqb (run flat file b .answer) 0 (sym (s .answer-same) ∙ z))
-        (listing-same (eventsIn file) (run flat file a .answers) (run flat file b .answers) (run flat file a .state) (run flat file b .state) (s .state-same) (s .answers-same z))
+        rw (eq-eqb (run file a .answer) 0 z, eq-eqb (run file b .answer) 0 (sym (s .answer-same) ∙ z))
+        (listing-same (eventsIn file) (run file a .answers) (run file b .answers) (run file a .state) (run file b .state) (s .state-same) (s .answers-same z))
 
-    refused : (run flat file a .answer ≡ 0 → ⊥) → report flat file a ≡ report flat file b
+    refused : (run file a .answer ≡ 0 → ⊥) → report file a ≡ report file b
     refused d =
         let s = same-run file a b ra rb in
-        rw (ne-eqb (run flat file a .answer) 0 d, ne-eqb (run flat file b .answer) 0 (λ z. d (s .answer-same ∙ z))) (ap refusedLine (s .answer-same))
+        rw (ne-eqb (run file a .answer) 0 d, ne-eqb (run file b .answer) 0 (λ z. d (s .answer-same ∙ z))) (ap refusedLine (s .answer-same))
 
-refused-same : (file start out : List ℕ) → (run flat file out .answer ≡ 0 → ⊥) → run flat start out ≡ run flat file out → report flat start out ≡ report flat file out
+refused-same : (file start out : List ℕ) → (run file out .answer ≡ 0 → ⊥) → run start out ≡ run file out → report start out ≡ report file out
 unfolding report reportOf
-refused-same file start out d e = rw (e, ne-eqb (run flat file out .answer) 0 d)
+refused-same file start out d e = rw (e, ne-eqb (run file out .answer) 0 d)
 
 -- What is reported of a file is what is reported of its first 36,871 bytes.
-pub report-of-the-start : (file out : List ℕ) → report flat (take fileRoom file) out ≡ report flat file out
+pub report-of-the-start : (file out : List ℕ) → report (take fileRoom file) out ≡ report file out
 report-of-the-start file out = ⊎-elim long short (lt-or-le longest (length file))
   where
-    long : longest < length file → report flat (take fileRoom file) out ≡ report flat file out
+    long : longest < length file → report (take fileRoom file) out ≡ report file out
     long l = refused-same file (take fileRoom file) out (long-refused file out l) (long-alike file out fileRoom (omega arith) (omega arith))
 
-    short : length file ≤ longest → report flat (take fileRoom file) out ≡ report flat file out
-    short l = ap (λ (f : List ℕ). report flat f out) (take-all fileRoom file (omega arith))
+    short : length file ≤ longest → report (take fileRoom file) out ≡ report file out
+    short l = ap (λ (f : List ℕ). report f out) (take-all fileRoom file (omega arith))

@@ -25,8 +25,8 @@ listing events answers s =
 unfoldable pub reportOf : List ℕ → Run → List ℕ
 reportOf file r = cond (eqb (r .answer) 0) (listing (eventsIn file) (r .answers) (r .state)) (refusedLine (r .answer))
 
-unfoldable pub report : (ℕ → ℕ) → List ℕ → List ℕ → List ℕ
-report anc file out = reportOf file (run anc file out)
+unfoldable pub report : List ℕ → List ℕ → List ℕ
+report file out = reportOf file (run file out)
 
 -- What the caller of a report lends. To read the file: one byte more than the longest has, so that a longer one is seen.
 abbrev pub fileRoom : ℕ

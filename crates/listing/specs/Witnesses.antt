@@ -7,6 +7,7 @@ use lib.Dec.{eqb}
 use lib.ListN.{replicate}
 use Rattle.sets.specs.Sets.{has}
 use Rattle.tree.specs.Tree.{flat}
+use Rattle.tree.specs.Forms.{flatForm}
 use Rattle.tree.specs.Calls.{same}
 use Rattle.tree.specs.Examples.{tallies}
 use Rattle.rank.specs.declared.Rank.{Rank}
@@ -68,7 +69,7 @@ threeListing =
 
 -- The example after its first k events, and its rank i.
 unfoldable pub later : ℕ → State
-later k = stepping (eventAt three) k 0 (freshState flat 3) [] .state
+later k = stepping (eventAt three) k 0 (freshState flat 3 flatForm 1) [] .state
 
 unfoldable pub seen : ℕ → ℕ → Rank
 seen k i = rankAt (later k) i
@@ -78,10 +79,10 @@ unfoldable pub goes : ℕ → Bool
 goes k = eqb (stepped flat (later k) (eventAt three k) .answer) 0
 
 unfoldable pub one : State
-one = started flat 1 .state
+one = started flat 1 flatForm 1 .state
 
 unfoldable pub two : State
-two = started flat 2 .state
+two = started flat 2 flatForm 1 .state
 
 -- rank 1 of two has entered, and its UP is in flight; it has crashed; rank 0 is told of it
 unfoldable pub reporting : State
@@ -95,15 +96,17 @@ informed = event flat widowed (eventOf 4 0 1) .state
 
 -- nobody lives; and 128 messages are in flight
 unfoldable pub extinct : State
-extinct = joined (record { n = 1; dead = 1; count = 0; ranks = one .group .ranks; net = one .group .net }) (one .tables)
+extinct = joined (record { n = 1; form = flatForm; span = 1; count = 0; dead = 1; ranks = one .group .ranks; net = one .group .net }) (one .tables)
 
 unfoldable pub crowded : State
 crowded =
     joined
     (record {
       n = 2;
-      dead = 0;
+      form = flatForm;
+      span = 1;
       count = inFlight;
+      dead = 0;
       ranks = two .group .ranks;
       net = replicate inFlight (record { kind = 1; from = 1; to = 0; triple = zeroTriple });
     })
@@ -112,11 +115,11 @@ crowded =
 -- Rank 2 of four, and rank 3 of five: it has reported, every rank below it has crashed, and it is told of them one after the other, until it is
 -- the root and asks the last rank, which knows no death.
 unfoldable pub four : State
-four = stepping (eventAt (file 4 (then 1 2 7 (then 3 0 0 (then 3 1 0 (then 4 2 0 (then 4 2 1 []))))))) 5 0 (freshState flat 4) [] .state
+four = stepping (eventAt (file 4 (then 1 2 7 (then 3 0 0 (then 3 1 0 (then 4 2 0 (then 4 2 1 []))))))) 5 0 (freshState flat 4 flatForm 1) [] .state
 
 unfoldable pub five : State
 five =
-    stepping (eventAt (file 5 (then 1 3 7 (then 3 0 0 (then 3 1 0 (then 3 2 0 (then 4 3 0 (then 4 3 1 (then 4 3 2 []))))))))) 7 0 (freshState flat 5) [] .state
+    stepping (eventAt (file 5 (then 1 3 7 (then 3 0 0 (then 3 1 0 (then 3 2 0 (then 4 3 0 (then 4 3 1 (then 4 3 2 []))))))))) 7 0 (freshState flat 5 flatForm 1) [] .state
 
 -- An event is accepted, and moves these ranks, counted so often.
 unfoldable pub movesThese : Stepped → ℕ → ℕ → Bool
@@ -133,7 +136,7 @@ leaves r number out = eqb (r .answer) number && eqb (r .state .group .n) 0 && sa
 unfoldable pub witnesses : List Bool
 witnesses =
     -- 1: a start, and an event on what it gives
-    eqb (started flat 0 .answer) 1 ∷ eqb (started flat 65 .answer) 1 ∷ refuses (event flat (started flat 65 .state) (eventOf 1 0 0)) 1
+    eqb (started flat 0 flatForm 1 .answer) 1 ∷ eqb (started flat 65 flatForm 1 .answer) 1 ∷ refuses (event flat (started flat 65 flatForm 1 .state) (eventOf 1 0 0)) 1
     -- 2: nobody lives
     ∷ refuses (event flat extinct (eventOf 1 0 0)) 2
     -- 3: no such kind; a delivery and an acknowledgement with b
@@ -156,8 +159,8 @@ witnesses =
     ∷ refuses (event flat reporting (eventOf 5 0 0)) 10
     ∷ refuses (event flat crowded (eventOf 1 1 0)) 11
     -- a run: a bad header, and 25
-    ∷ leaves (run flat [] (7 ∷ [])) 20 (7 ∷ [])
-    ∷ leaves (run flat (file 1 (then 1 0 9 [])) (7 ∷ 7 ∷ [])) 25 (7 ∷ 7 ∷ [])
+    ∷ leaves (run [] (7 ∷ [])) 20 (7 ∷ [])
+    ∷ leaves (run (file 1 (then 1 0 9 [])) (7 ∷ 7 ∷ [])) 25 (7 ∷ 7 ∷ [])
     -- Enter, with settle: rank 2 reports and waits.
     ∷ (goes 0 && eqb (seen 1 2 .phase) 2)
     -- UP: rank 1 has heard rank 2, and owes it.
@@ -185,5 +188,5 @@ witnesses =
     -- A lost message.
     ∷ eqb (event flat widowed (eventOf 5 0 0) .answer) 0
     -- The whole example prints its listing.
-    ∷ same (report flat three (replicate 36 0)) threeListing
+    ∷ same (report three (replicate 36 0)) threeListing
     ∷ []

@@ -17,7 +17,7 @@ use Rattle.agreement.specs.Progress.{Lives}
 use Rattle.news.specs.News.{Shows, MembersAre, inMended, MendingInAnyOrder, CallsInAnyOrder, AcceptedInAnyOrder, inActed, NoticesInAnyOrder, byNotice, allTold, takes, NewsInAnyOrder, AskMarksAllBelow, newsTo, RunsInAnyOrder, SameDeathsSameTable}
 use Rattle.news.proofs.Lists.{added-set, added-members}
 use Rattle.news.proofs.Orders.{in-any-order}
-use Rattle.news.proofs.Calling.{calls-any-order, calls-accepted}
+use Rattle.news.proofs.Calling.{calls-any-order, calls-accepted, accepted-right}
 use Rattle.news.proofs.Telling.{notice-shows, ask-shows, news-shows, knows-its-news}
 
 -- Every list is one of a set's members, so no claim about lists is empty.
@@ -36,11 +36,11 @@ pub mending-in-any-order : (anc : ℕ → ℕ) → MendingInAnyOrder anc
 mending-in-any-order anc n = in-any-order anc n (λ x q. mended anc n (x .marks) q) inMended (mending-shows anc n)
 
 -- Of calls, accepted or not; and two that are accepted in one order are accepted in the other.
-pub calls-in-any-order : (anc : ℕ → ℕ) → CallsInAnyOrder anc
-calls-in-any-order = calls-any-order
+pub calls-in-any-order : (form span : ℕ) → CallsInAnyOrder form span
+calls-in-any-order form span known boxed n = calls-any-order form span n (known, boxed)
 
-pub accepted-in-any-order : (anc : ℕ → ℕ) → AcceptedInAnyOrder anc
-accepted-in-any-order = calls-accepted
+pub accepted-in-any-order : (form span : ℕ) → AcceptedInAnyOrder form span
+accepted-in-any-order form span n x a b s = calls-accepted form span n (accepted-right form span n x a s) x a b s
 
 -- ---- news to a rank
 
@@ -68,6 +68,6 @@ pub the-same-deaths-the-same-table : (anc : ℕ → ℕ) → SameDeathsSameTable
 the-same-deaths-the-same-table anc n s r i j li lj e = table-is-fresh anc n s r i (li .0) ∙ ap (fresh anc n) e ∙ sym (table-is-fresh anc n s r j (lj .0))
 
 -- For readers of listings: at the end of an accepted schedule.
-pub in-a-schedule-the-same-deaths-the-same-table : (file out : List ℕ) → run flat file out .answer ≡ 0 → (i j : ℕ) → Lives (byteAt file 5) (run flat file out .state) i → Lives (byteAt file 5) (run flat file out .state) j
-    → rankAt (run flat file out .state) i .marks ≡ rankAt (run flat file out .state) j .marks → rowAt (run flat file out .state) i ≡ rowAt (run flat file out .state) j
-in-a-schedule-the-same-deaths-the-same-table file out z = the-same-deaths-the-same-table flat (byteAt file 5) (run flat file out .state) (run-reaches file out z)
+pub in-a-schedule-the-same-deaths-the-same-table : (file out : List ℕ) → run file out .answer ≡ 0 → (i j : ℕ) → Lives (byteAt file 5) (run file out .state) i → Lives (byteAt file 5) (run file out .state) j
+    → rankAt (run file out .state) i .marks ≡ rankAt (run file out .state) j .marks → rowAt (run file out .state) i ≡ rowAt (run file out .state) j
+in-a-schedule-the-same-deaths-the-same-table file out z = the-same-deaths-the-same-table flat (byteAt file 5) (run file out .state) (run-reaches file out z)

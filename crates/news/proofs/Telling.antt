@@ -143,14 +143,14 @@ module _ (anc : ℕ → ℕ) (s : State) (o : InOrder anc s) (i : ℕ) where
 -- ---- a run
 
 module _ (anc : ℕ → ℕ) (n i : ℕ) (l : i < n) where
-  knows-nothing : n ≤ 64 → started anc n .answer ≡ 0 → rankAt (started anc n .state) i .marks ≡ foldl add 0 (allTold [])
+  knows-nothing : (form span : ℕ) → n ≤ 64 → started anc n form span .answer ≡ 0 → rankAt (started anc n form span .state) i .marks ≡ foldl add 0 (allTold [])
   unfolding allTold
-  knows-nothing small z = ap (λ (t : State). rankAt t i .marks) (started-fresh anc n z .1) ∙ ap (λ (r : Rank). r .marks) (fresh-rank-at anc n i small l) ∙ fresh-marks anc n i
+  knows-nothing form span small z = ap (λ (t : State). rankAt t i .marks) (started-fresh anc n form span z .1) ∙ ap (λ (r : Rank). r .marks) (fresh-rank-at anc n form span i small l) ∙ fresh-marks anc n i
 
   -- A rank knows what its news told it of, and nothing else.
   pub knows-its-news : (s : State) (run : Reaches anc n s) → rankAt s i .marks ≡ foldl add 0 (allTold (newsTo anc n s run i))
   unfolding newsTo
-  knows-its-news s (begun z) = knows-nothing (reached-small anc n (started anc n .state) (begun z) .1) z
+  knows-its-news s (begun form span z) = knows-nothing form span (reached-small anc n (started anc n form span .state) (begun form span z) .1) z
   knows-its-news s (next s′ ev run z) =
       event-brings anc s′ (reached-in-order anc n s′ run) i ev z
       ∙ ap (λ (w : ℕ). foldl add w (allTold (brings s′ ev i))) (knows-its-news s′ run)

@@ -1,5 +1,5 @@
 -- Request 2026-06: the order of bad news. The words of the claims, and the claims: which deaths are known decides the marks and the table; the order
--- in which they were told, and how often, does not. Over any ancestor sets.
+-- in which they were told, and how often, does not. Over any ancestor sets; calls of `mark` in each form.
 use Prim.Native.Nat.{ℕ, _≤_, _<_}
 use mathlib.Core.Path.{_≡_}
 use mathlib.Core.Bool.{Bool, true, false, cond, not, _&&_, _||_}
@@ -8,7 +8,8 @@ use lib.Dec.{eqb}
 use Rattle.sets.specs.Sets.{has, union, below, listed}
 use Rattle.tree.specs.Refusals.{accepted}
 use Rattle.tree.specs.Tree.{fresh}
-use Rattle.tree.specs.Calls.{mended, marked}
+use Rattle.tree.specs.Forms.{nestedForm, treeOf}
+use Rattle.tree.specs.Calls.{mended, wrongSize, marked}
 use Rattle.tree.specs.declared.Mended.{Mended}
 use Rattle.tree.specs.declared.Marked.{Marked}
 use Rattle.rank.specs.declared.Acted.{Acted}
@@ -73,20 +74,21 @@ inMended x = record { marks = x .marks; table = x .table }
 abbrev pub MendingInAnyOrder : (ℕ → ℕ) → Type 0
 MendingInAnyOrder anc = (n : ℕ) → InAnyOrder anc n (λ x q. mended anc n (x .marks) q) inMended
 
--- By calls of `mark`, each on the view and the table that the one before handed back, accepted or not.
-abbrev pub calls : (ℕ → ℕ) → ℕ → Marked → ℕ → Marked
-calls anc n x q = marked anc n (x .marks) (x .table) q
+-- By calls of `mark` in a form with a box size, each on the view and the table that the one before handed back, accepted or not.
+abbrev pub calls : ℕ → ℕ → ℕ → Marked → ℕ → Marked
+calls form span n x q = marked n form span (x .marks) (x .table) q
 
 abbrev pub inMarked : Marked → Held
 inMarked x = record { marks = x .marks; table = x .table }
 
-abbrev pub CallsInAnyOrder : (ℕ → ℕ) → Type 0
-CallsInAnyOrder anc = (n : ℕ) → InAnyOrder anc n (calls anc n) inMarked
+-- A wrong form or box size refuses every call.
+abbrev pub CallsInAnyOrder : ℕ → ℕ → Type 0
+CallsInAnyOrder form span = form ≤ nestedForm → wrongSize span ≡ false → (n : ℕ) → InAnyOrder (treeOf form span) n (calls form span n) inMarked
 
 -- Two calls that are accepted in one order are accepted in the other.
-abbrev pub AcceptedInAnyOrder : (ℕ → ℕ) → Type 0
-AcceptedInAnyOrder anc = (n : ℕ) (x : Marked) (a b : ℕ) → calls anc n x a .answer ≡ accepted → calls anc n (calls anc n x a) b .answer ≡ accepted
-    → (calls anc n x b .answer ≡ accepted) × (calls anc n (calls anc n x b) a .answer ≡ accepted)
+abbrev pub AcceptedInAnyOrder : ℕ → ℕ → Type 0
+AcceptedInAnyOrder form span = (n : ℕ) (x : Marked) (a b : ℕ) → calls form span n x a .answer ≡ accepted → calls form span n (calls form span n x a) b .answer ≡ accepted
+    → (calls form span n x b .answer ≡ accepted) × (calls form span n (calls form span n x b) a .answer ≡ accepted)
 
 -- ---- news to a rank
 
@@ -140,7 +142,7 @@ brings s ev i =
 
 -- All news that a run brought it, in the order in which it came.
 unfoldable pub newsTo : (anc : ℕ → ℕ) (n : ℕ) (s : State) → Reaches anc n s → ℕ → List News
-newsTo anc n s (begun z) i = []
+newsTo anc n s (begun form span z) i = []
 newsTo anc n s (next s′ ev run z) i = newsTo anc n s′ run i ++ brings s′ ev i
 
 -- In a reached state a rank has marked those that the run's news told it of, whatever came between, and its table is the fresh one.

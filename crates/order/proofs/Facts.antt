@@ -4,6 +4,7 @@ use mathlib.Core.Path.{_≡_}
 use mathlib.Core.Bool.{true}
 use lib.ListN.{replicate}
 use Rattle.sets.specs.Sets.{none, has, minus, below}
+use Rattle.tree.proofs.Laws.Calls.{Shapely}
 use Rattle.rank.proofs.Facts.{MemberInOrder}
 use Rattle.net.specs.Net.{inFlight, zeroMessage}
 use Rattle.net.proofs.Facts.{MessageInOrder}
@@ -14,8 +15,7 @@ use Rattle.order.specs.Between.{Shaped}
 -- A state in order:
 pub record InOrderFacts (anc : ℕ → ℕ) (s : State) : Type 0 where
   pub shaped : Shaped s
-  pub size-low : 0 < s .group .n
-  pub size-high : s .group .n ≤ 64
+  pub shape : Shapely (s .group .n) (s .group .form) (s .group .span)
   pub lives : minus (below (s .group .n)) (s .group .dead) ≡ 0 → ⊥
   pub dead-in : (k : ℕ) → has (s .group .dead) k ≡ true → k < s .group .n
   pub count-le : s .group .count ≤ inFlight

@@ -6,7 +6,8 @@ use lib.Dec.{eqb, ltb, leb}
 use lib.ListN.{replicate}
 use Rattle.sets.specs.Sets.{none, has, minus, below, every, all}
 use Rattle.tree.specs.Tree.{fresh}
-use Rattle.tree.specs.Calls.{wrongSize, same}
+use Rattle.tree.specs.Refusals.{accepted}
+use Rattle.tree.specs.Calls.{misshapen, same}
 use Rattle.rank.specs.declared.Rank.{Rank}
 use Rattle.rank.specs.declared.Message.{Message}
 use Rattle.rank.specs.declared.Triple.{Triple}
@@ -97,10 +98,12 @@ placeInOrder n dead c i m = cond (ltb i c) (messageInOrder n dead m) (zeroPlace 
 unfoldable pub placeInOrderAt : State → ℕ → Bool
 placeInOrderAt s i = placeInOrder (s .group .n) (s .group .dead) (s .group .count) i (placeAt s i)
 
--- n is 1 to 64 and some rank lives; the dead lie within n; at most 128 messages are listed; each rank and each place.
+-- n is 1 to 64, box size and form are right, and some rank lives; the dead lie within n; at most 128 messages are listed; each rank and each
+-- place.
 unfoldable pub inOrder : (ℕ → ℕ) → State → Bool
 inOrder anc s =
-    all (not (wrongSize (s .group .n)) ∷ not (eqb (minus (below (s .group .n)) (s .group .dead)) 0)
+    all (eqb (misshapen (s .group .n) (s .group .form) (s .group .span)) accepted
+    ∷ not (eqb (minus (below (s .group .n)) (s .group .dead)) 0)
     ∷ isWithin (s .group .dead) (below (s .group .n))
     ∷ leb (s .group .count) inFlight
     ∷ every (seatInOrderAt anc s) 64

@@ -9,14 +9,15 @@ use rank::UP;
 use rank::WAITING;
 use state::State;
 ghost use mathlib.Core.Path.{_≡_};
-ghost use mathlib.Core.Bool.{_&&_};
+ghost use mathlib.Core.Bool.{_&&_, true};
 ghost use mathlib.Core.List.{[]};
 ghost use Prim.Native.Nat.{_<_, _≤_};
 ghost use lib.ListN.{getD, length};
 ghost use Rattle.sets.specs.Sets.{every};
-ghost use Rattle.tree.specs.Tree.{flat};
+ghost use Rattle.tree.specs.Forms.{treeOf};
+ghost use Rattle.tree.specs.Calls.{misshapen};
 ghost use Rattle.net.specs.Net.{zeroMessage};
-ghost use Rattle.state.specs.States.{zeroRank};
+ghost use Rattle.state.specs.States.{ownTree, zeroRank};
 ghost use Rattle.order.specs.Order.{inOrder, isWithin, isZero, memberInOrder, messageInOrder, placeInOrder, proper, rankInOrder, seatInOrder, strangerInOrder, tripleWithin, zeroPlace, zeroRecord};
 ghost use Rattle.order.specs.Between.{Shaped};
 
@@ -75,16 +76,17 @@ fn triples_within(n: u8, r: Rank) -> bool
 }
 
 // One rank: its record and its row.
-fn rank_in_order(n: u8, me: u8, r: Rank, row: [u8; 64]) -> bool
+fn rank_in_order(n: u8, form: u8, span: u8, me: u8, r: Rank, row: [u8; 64]) -> bool
+    requires { ⌜ 0 < span ⌝ }
     requires { ⌜ n ≤ 64 ⌝ }
     requires { ⌜ me < n ⌝ }
-    ensures { λ t. ⌜ t ≡ rankInOrder flat n me r row ⌝ }
+    ensures { λ t. ⌜ t ≡ rankInOrder (treeOf form span) n me r row ⌝ }
 {
-    if !tree::same(row, tree::fresh(n, r.marks)) {
+    if !tree::same(row, tree::fresh(n, form, span, r.marks)) {
         return false;
     }
     let parent = row[me as usize];
-    let awaited = sets::minus(tree::children_of(n, r.marks, row, me), r.heard);
+    let awaited = sets::minus(tree::children_of(n, form, span, r.marks, row, me), r.heard);
     let gathers = !(r.phase == GATHERING) | !(r.awaited == 0);
     let waits = !(r.phase == WAITING) | !(parent == sets::NONE);
     let result = r.result;
@@ -94,12 +96,13 @@ fn rank_in_order(n: u8, me: u8, r: Rank, row: [u8; 64]) -> bool
 }
 
 // A rank of the group.
-fn member_in_order(n: u8, dead: u64, i: u8, r: Rank, row: [u8; 64]) -> bool
+fn member_in_order(n: u8, form: u8, span: u8, dead: u64, i: u8, r: Rank, row: [u8; 64]) -> bool
+    requires { ⌜ 0 < span ⌝ }
     requires { ⌜ n ≤ 64 ⌝ }
     requires { ⌜ i < n ⌝ }
-    ensures { λ t. ⌜ t ≡ memberInOrder flat n dead i r row ⌝ }
+    ensures { λ t. ⌜ t ≡ memberInOrder (treeOf form span) n dead i r row ⌝ }
 {
-    rank_in_order(n, i, r, row) & is_within(r.marks, dead)
+    rank_in_order(n, form, span, i, r, row) & is_within(r.marks, dead)
 }
 
 // A record past the group.
@@ -125,26 +128,43 @@ fn stranger_in_order(r: Rank, row: [u8; 64]) -> bool
 }
 
 // The record and row of a place among the ranks.
-fn seat_in_order(n: u8, dead: u64, i: u8, r: Rank, row: [u8; 64]) -> bool
+fn seat_in_order(n: u8, form: u8, span: u8, dead: u64, i: u8, r: Rank, row: [u8; 64]) -> bool
+    requires { ⌜ 0 < span ⌝ }
     requires { ⌜ n ≤ 64 ⌝ }
-    ensures { λ t. ⌜ t ≡ seatInOrder flat n dead i r row ⌝ }
+    ensures { λ t. ⌜ t ≡ seatInOrder (treeOf form span) n dead i r row ⌝ }
 {
     if i < n {
-        return member_in_order(n, dead, i, r, row);
+        return member_in_order(n, form, span, dead, i, r, row);
     }
     stranger_in_order(r, row)
 }
 
 // All 64 records and rows.
-fn seats_in_order(n: u8, dead: u64, ranks: [Rank; 64], tables: [[u8; 64]; 64]) -> bool
+fn seats_in_order(
+    n: u8,
+    form: u8,
+    span: u8,
+    dead: u64,
+    ranks: [Rank; 64],
+    tables: [[u8; 64]; 64],
+) -> bool
+    requires { ⌜ 0 < span ⌝ }
     requires { ⌜ n ≤ 64 ⌝ }
-    ensures { λ t. ⌜ t ≡ every (λ i. seatInOrder flat n dead i (getD ranks i zeroRank) (getD tables i [])) 64 ⌝ }
+    ensures { λ t. ⌜ t ≡ every (λ i. seatInOrder (treeOf form span) n dead i (getD ranks i zeroRank) (getD tables i [])) 64 ⌝ }
     ensures { λ t. ⌜ length ranks ≡ 64 ⌝ }
     ensures { λ t. ⌜ length tables ≡ 64 ⌝ }
 {
     let mut i: u8 = 0;
     while i < 64 {
-        if !seat_in_order(n, dead, i, ranks[i as usize], tables[i as usize]) {
+        if !seat_in_order(
+            n,
+            form,
+            span,
+            dead,
+            i,
+            ranks[i as usize],
+            tables[i as usize],
+        ) {
             return false;
         }
         i += 1;
@@ -206,18 +226,29 @@ fn places_in_order(n: u8, dead: u64, count: u8, net: [Message; 128]) -> bool
     true
 }
 
-// Whether a state whose size is right is in order.
-pub fn in_order(s: State) -> bool
-    requires { ⌜ s .group .n ≤ 64 ⌝ }
-    requires { ⌜ 0 < s .group .n ⌝ }
-    ensures { λ t. ⌜ t ≡ inOrder flat s ⌝ }
+// Whether a state whose size, form and box size are right is in order.
+fn all_in_order(s: State) -> bool
+    requires { ⌜ misshapen (s .group .n) (s .group .form) (s .group .span) ≡ 0 ⌝ }
+    ensures { λ t. ⌜ t ≡ inOrder (ownTree s) s ⌝ }
     ensures { λ t. ⌜ Shaped s ⌝ }
 {
     let g = s.group;
     let all = sets::below(g.n);
     let ranks = g.ranks;
     let net = g.net;
-    let seats = seats_in_order(g.n, g.dead, ranks, state::tables_of(s));
+    let seats = seats_in_order(g.n, g.form, g.span, g.dead, ranks, state::tables_of(s));
     let places = places_in_order(g.n, g.dead, g.count, net);
     !(sets::minus(all, g.dead) == 0) & is_within(g.dead, all) & (g.count <= 128) & seats & places
+}
+
+// Whether a state is in order.
+pub fn in_order(s: State) -> bool
+    ensures { λ t. ⌜ t ≡ inOrder (ownTree s) s ⌝ }
+    ensures { λ t. ⌜ (t ≡ true → Shaped s) ⌝ }
+{
+    let g = s.group;
+    if tree::misshapen(g.n as u32, g.form as u32, g.span as u32) != 0 {
+        return false;
+    }
+    all_in_order(s)
 }

@@ -10,7 +10,7 @@ use tree::Moved;
 ghost use mathlib.Core.Path.{_≡_};
 ghost use mathlib.Core.Bool.{cond};
 ghost use Prim.Native.Nat.{_+_, _-_, _<_};
-ghost use Rattle.tree.specs.Tree.{flat};
+ghost use Rattle.tree.specs.Forms.{treeOf};
 ghost use Rattle.refusals.specs.Refusing.{refusal};
 ghost use Rattle.plans.specs.Plans.{acting, delivered, idle, planned, refusing, subject};
 ghost use Rattle.plans.specs.Between.{FreshSubject};
@@ -50,40 +50,59 @@ pub fn subject(n: u8, ev: Event, m: Message) -> u8
 }
 
 // A message reaches its receiver.
-fn deliver(n: u8, dead: u64, m: Message, me: u8, r: Rank, row: [u8; 64]) -> Acted
-    requires { ⌜ FreshSubject flat n m me r row ⌝ }
-    ensures { λ t. ⌜ t ≡ delivered flat n dead me m r row ⌝ }
+fn deliver(
+    n: u8,
+    form: u8,
+    span: u8,
+    dead: u64,
+    m: Message,
+    me: u8,
+    r: Rank,
+    row: [u8; 64],
+) -> Acted
+    requires { ⌜ FreshSubject (treeOf form span) n m me r row ⌝ }
+    ensures { λ t. ⌜ t ≡ delivered (treeOf form span) n dead me m r row ⌝ }
 {
     if sets::member(dead, me) | sets::member(r.marks, m.from) {
         return idle(r, row);
     }
     let triple = m.triple;
     if m.kind == UP {
-        return r.up(n, me, row, m.from, triple);
+        return r.up(n, form, span, me, row, m.from, triple);
     }
     if m.kind == DOWN {
-        return r.down(n, me, row, triple);
+        return r.down(n, form, span, me, row, triple);
     }
-    r.ask(n, me, row, m.from)
+    r.ask(n, form, span, me, row, m.from)
 }
 
 // What the event has its rank do.
-fn act(n: u8, dead: u64, ev: Event, m: Message, me: u8, r: Rank, row: [u8; 64]) -> Acted
-    requires { ⌜ FreshSubject flat n m me r row ⌝ }
+fn act(
+    n: u8,
+    form: u8,
+    span: u8,
+    dead: u64,
+    ev: Event,
+    m: Message,
+    me: u8,
+    r: Rank,
+    row: [u8; 64],
+) -> Acted
+    requires { ⌜ FreshSubject (treeOf form span) n m me r row ⌝ }
     requires { ⌜ (ev .kind ≡ 4 → ev .b < n) ⌝ }
-    ensures { λ t. ⌜ t ≡ acting flat n dead ev m me r row ⌝ }
+    ensures { λ t. ⌜ t ≡ acting (treeOf form span) n dead ev m me r row ⌝ }
 {
     if ev.kind == events::ENTERS {
-        return r.enter(n, me, row, ev.b);
+        return r.enter(n, form, span, me, row, ev.b);
     }
     if ev.kind == events::DELIVERS {
-        return deliver(n, dead, m, me, r, row);
+        return deliver(n, form, span, dead, m, me, r, row);
     }
     if ev.kind == events::NOTICES {
-        return r.notice(n, me, row, ev.b as u8);
+        return r.notice(n, form, span, me, row, ev.b as u8);
     }
     if ev.kind == events::ACKNOWLEDGES {
-        return r.acknowledge(n, me, row);
+        return r.acknowledge(n, form, span, me, row);
     }
     idle(r, row)
 }
@@ -117,6 +136,8 @@ fn refuse(answer: u32, r: Rank, row: [u8; 64]) -> Plan
 // Decides what an event does that none of 3 to 10 refuses: that, or 11.
 pub fn plan_clean(
     n: u8,
+    form: u8,
+    span: u8,
     dead: u64,
     count: u8,
     ev: Event,
@@ -125,11 +146,11 @@ pub fn plan_clean(
     r: Rank,
     row: [u8; 64],
 ) -> Plan
-    requires { ⌜ FreshSubject flat n m me r row ⌝ }
+    requires { ⌜ FreshSubject (treeOf form span) n m me r row ⌝ }
     requires { ⌜ refusal n dead count ev r m ≡ 0 ⌝ }
-    ensures { λ t. ⌜ t ≡ planned flat n dead count ev m me r row ⌝ }
+    ensures { λ t. ⌜ t ≡ planned (treeOf form span) n dead count ev m me r row ⌝ }
 {
-    let acted = act(n, dead, ev, m, me, r, row);
+    let acted = act(n, form, span, dead, ev, m, me, r, row);
     let first = acted.first;
     let second = acted.second;
     let leaves = events::names_place(ev.kind);
@@ -147,6 +168,8 @@ pub fn plan_clean(
 // Decides what an event does, from one rank's record and row and the message at the place.
 pub fn plan_event(
     n: u8,
+    form: u8,
+    span: u8,
     dead: u64,
     count: u8,
     ev: Event,
@@ -155,12 +178,12 @@ pub fn plan_event(
     r: Rank,
     row: [u8; 64],
 ) -> Plan
-    requires { ⌜ FreshSubject flat n m me r row ⌝ }
-    ensures { λ t. ⌜ t ≡ planned flat n dead count ev m me r row ⌝ }
+    requires { ⌜ FreshSubject (treeOf form span) n m me r row ⌝ }
+    ensures { λ t. ⌜ t ≡ planned (treeOf form span) n dead count ev m me r row ⌝ }
 {
     let number = refusals::refusal(n, dead, count, ev, r, m);
     if number != 0 {
         return refuse(number, r, row);
     }
-    plan_clean(n, dead, count, ev, m, me, r, row)
+    plan_clean(n, form, span, dead, count, ev, m, me, r, row)
 }

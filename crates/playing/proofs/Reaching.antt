@@ -1,6 +1,6 @@
 -- The final state and the numbers are those of `event`, one event after the other, on the state that the one before left; and from a
 -- reached state every state on the way is reached by accepted events. Assumes nothing.
-use mathlib.Core.Path.{_≡_, sym, ap, subst, _∙_}
+use mathlib.Core.Path.{_≡_, refl, sym, ap, subst, _∙_}
 use mathlib.Core.List.{List}
 use mathlib.Core.Logic.{_⊎_, inl, inr, ⊎-elim}
 use Prim.Native.Nat.{ℕ, zero, suc, _+_, _*_, _≤_, _<_}
@@ -12,8 +12,9 @@ use Rattle.events.specs.declared.Event.{Event}
 use Rattle.state.specs.declared.State.{State}
 use Rattle.group.specs.declared.Stepped.{Stepped}
 use Rattle.group.specs.Events.{event}
-use Rattle.group.specs.Reaching.{Reaches, next}
+use Rattle.group.specs.Reaching.{Reaches, next, SameForm}
 use Rattle.group.proofs.Laws.Events.{refused-stays}
+use Rattle.group.proofs.Forms.{an-event-keeps-the-form}
 use Rattle.playing.specs.Playing.{Run, told, played}
 use Rattle.playing.specs.Reaching.{stateAfter, NumbersOf}
 use Rattle.playing.proofs.Laws.Slices.{Three, written-long, written-three, three-stays}
@@ -42,6 +43,15 @@ module _ (anc : ℕ → ℕ) (events : ℕ → Event) (s : State) where
   pub after-played : (total : ℕ) (out : List ℕ) → played anc events total 0 s out .state ≡ stateAfter anc events s total
   unfolding stateAfter
   after-played total out = after-from total 0 out ∙ ap (stateAfter anc events s) (let e : 0 + total ≡ total = omega arith in e)
+
+  -- Every state on the way has the form and the box size of the first.
+  pub after-keeps-the-form : (k : ℕ) → SameForm (stateAfter anc events s k) s
+  unfolding stateAfter
+  after-keeps-the-form zero = (refl, refl)
+  after-keeps-the-form (suc k) =
+      let e = an-event-keeps-the-form anc (stateAfter anc events s k) (events k) in
+      let f = after-keeps-the-form k in
+      (e .0 ∙ f .0, e .1 ∙ f .1)
 
   numbers-from : (more k j : ℕ) (out : List ℕ) → 3 * (k + more) ≤ length out → k ≤ j → j < k + more
       → NumbersOf (event anc (stateAfter anc events s j) (events j)) (played anc events more k (stateAfter anc events s k) out .answers) j

@@ -7,8 +7,7 @@ use state::State;
 ghost use mathlib.Core.Path.{_≡_};
 ghost use Prim.Native.Nat.{_+_, _*_, _≤_};
 ghost use lib.ListN.{length};
-ghost use Rattle.tree.specs.Tree.{flat};
-ghost use Rattle.state.specs.States.{joined};
+ghost use Rattle.state.specs.States.{joined, ownTree};
 ghost use Rattle.order.specs.Between.{InOrder};
 ghost use Rattle.playing.specs.Playing.{eventIn, played, written};
 
@@ -45,18 +44,22 @@ pub fn put_three(out: &mut [u32], k: usize, x: u32, y: u32, z: u32)
 // A state from its parts.
 fn assemble(
     n: u8,
-    dead: u64,
+    form: u8,
+    span: u8,
     count: u8,
+    dead: u64,
     ranks: [Rank; 64],
     net: [Message; 128],
     tables: [[u8; 64]; 64],
 ) -> State
-    ensures { λ r. ⌜ r ≡ joined (record { n = n; dead = dead; count = count; ranks = ranks; net = net }) tables ⌝ }
+    ensures { λ r. ⌜ r ≡ joined (record { n = n; form = form; span = span; count = count; dead = dead; ranks = ranks; net = net }) tables ⌝ }
 {
     let group = Group {
         n,
-        dead,
+        form,
+        span,
         count,
+        dead,
         ranks,
         net,
     };
@@ -66,13 +69,15 @@ fn assemble(
 // Plays the events that are spelt out in the slice on a state in order; what is told of an event takes its place. It holds the state's parts
 // by themselves, so that an event stores only what changes; a refusal is found before the rank's record and row are taken out.
 pub fn play(total: usize, out: &mut [u32], s: State) -> State
-    requires { ⌜ InOrder flat s ⌝ }
+    requires { ⌜ InOrder (ownTree s) s ⌝ }
     requires { ⌜ 3 * total ≤ length (now out) ⌝ }
-    ensures { λ r. ⌜ r ≡ played flat (eventIn (now (out .entry))) total 0 s (now (out .entry)) .state ⌝ }
-    ensures { λ r. ⌜ now (out .exit) ≡ played flat (eventIn (now (out .entry))) total 0 s (now (out .entry)) .answers ⌝ }
+    ensures { λ r. ⌜ r ≡ played (ownTree s) (eventIn (now (out .entry))) total 0 s (now (out .entry)) .state ⌝ }
+    ensures { λ r. ⌜ now (out .exit) ≡ played (ownTree s) (eventIn (now (out .entry))) total 0 s (now (out .entry)) .answers ⌝ }
 {
     let g = s.group;
     let n = g.n;
+    let form = g.form;
+    let span = g.span;
     let mut dead = g.dead;
     let mut count = g.count;
     let mut ranks = g.ranks;
@@ -92,7 +97,7 @@ pub fn play(total: usize, out: &mut [u32], s: State) -> State
         }
         let r = ranks[me as usize];
         let row = tables[me as usize];
-        let p = plans::plan_clean(n, dead, count, ev, m, me, r, row);
+        let p = plans::plan_clean(n, form, span, dead, count, ev, m, me, r, row);
         if p.answer != 0 {
             put_three(out, k, p.answer, 0, 0);
             k += 1;
@@ -113,5 +118,5 @@ pub fn play(total: usize, out: &mut [u32], s: State) -> State
         }
     }
     let messages = net::messages(net, count);
-    assemble(n, dead, count, ranks, messages, tables)
+    assemble(n, form, span, count, dead, ranks, messages, tables)
 }

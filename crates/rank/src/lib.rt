@@ -7,7 +7,8 @@ ghost use mathlib.Core.Bool.{_&&_, false};
 ghost use lib.Dec.{eqb};
 ghost use lib.ListN.{getD};
 ghost use Rattle.sets.specs.Sets.{has, meet, none, setOf};
-ghost use Rattle.tree.specs.Tree.{children, flat, parent};
+ghost use Rattle.tree.specs.Tree.{children, parent};
+ghost use Rattle.tree.specs.Forms.{treeOf};
 ghost use Rattle.rank.specs.Words.{gathering, waiting};
 ghost use Rattle.rank.specs.Triples.{closing, code, combine, freshTriple, zeroTriple};
 ghost use Rattle.rank.specs.Records.{awaiting, childrenOf, freshRank, parentOf, proposal, viewing};
@@ -171,16 +172,16 @@ impl Send {
 
 impl Rank {
     // A rank that has done nothing yet.
-    pub fn fresh(n: u8, me: u8, row: [u8; 64]) -> Rank
-        requires { ⌜ FreshRow flat n me (freshRank flat n me) row ⌝ }
-        ensures { λ r. ⌜ r ≡ freshRank flat n me ⌝ }
+    pub fn fresh(n: u8, form: u8, span: u8, me: u8, row: [u8; 64]) -> Rank
+        requires { ⌜ FreshRow (treeOf form span) n me (freshRank (treeOf form span) n me) row ⌝ }
+        ensures { λ r. ⌜ r ≡ freshRank (treeOf form span) n me ⌝ }
     {
         Rank {
             phase: OUTSIDE,
             marks: 0,
             acknowledged: 0,
             heard: 0,
-            awaited: tree::children_of(n, 0, row, me),
+            awaited: tree::children_of(n, form, span, 0, row, me),
             owed: 0,
             triple: Triple::fresh(n),
             result: Triple::zero(),
@@ -211,10 +212,10 @@ impl Rank {
     }
 
     // Result x, phase decided, DOWN x to every unmarked rank in children or owed.
-    fn decide(mut self, n: u8, me: u8, row: [u8; 64], x: Triple) -> Said
-        requires { ⌜ FreshRow flat n me self row ⌝ }
-        requires { ⌜ self .awaited ≡ awaiting flat n me (self .marks) (self .heard) ⌝ }
-        ensures { λ r. ⌜ r ≡ deciding flat n me x self ⌝ }
+    fn decide(mut self, n: u8, form: u8, span: u8, me: u8, row: [u8; 64], x: Triple) -> Said
+        requires { ⌜ FreshRow (treeOf form span) n me self row ⌝ }
+        requires { ⌜ self .awaited ≡ awaiting (treeOf form span) n me (self .marks) (self .heard) ⌝ }
+        ensures { λ r. ⌜ r ≡ deciding (treeOf form span) n me x self ⌝ }
     {
         // a child is awaited or was heard; of the heard ones, who is owed is told anyway, and only the others are looked up
         let heard = tree::pointing(row, sets::minus(self.heard, self.owed), me);
@@ -229,10 +230,10 @@ impl Rank {
     }
 
     // Decides or reports, where it gathers and nobody is awaited any more.
-    fn settled(mut self, n: u8, me: u8, row: [u8; 64]) -> Said
-        requires { ⌜ FreshRow flat n me self row ⌝ }
-        requires { ⌜ self .awaited ≡ awaiting flat n me (self .marks) (self .heard) ⌝ }
-        ensures { λ r. ⌜ r ≡ settled flat n me self ⌝ }
+    fn settled(mut self, n: u8, form: u8, span: u8, me: u8, row: [u8; 64]) -> Said
+        requires { ⌜ FreshRow (treeOf form span) n me self row ⌝ }
+        requires { ⌜ self .awaited ≡ awaiting (treeOf form span) n me (self .marks) (self .heard) ⌝ }
+        ensures { λ r. ⌜ r ≡ settled (treeOf form span) n me self ⌝ }
     {
         if self.phase != GATHERING {
             return self.still();
@@ -243,7 +244,7 @@ impl Rank {
         let parent = row[me as usize];
         if parent == sets::NONE {
             let triple = self.triple;
-            return self.decide(n, me, row, triple.close(self.marks));
+            return self.decide(n, form, span, me, row, triple.close(self.marks));
         }
         let send = self.report(parent);
         self.phase = WAITING;
@@ -251,12 +252,21 @@ impl Rank {
     }
 
     // Settles; `first` is what the rule has sent before.
-    pub fn settle(self, n: u8, me: u8, row: [u8; 64], first: Send, moved: Moved) -> Acted
-        requires { ⌜ FreshRow flat n me self row ⌝ }
-        requires { ⌜ self .awaited ≡ awaiting flat n me (self .marks) (self .heard) ⌝ }
-        ensures { λ r. ⌜ r ≡ settling flat n me (saying self first) moved ⌝ }
+    pub fn settle(
+        self,
+        n: u8,
+        form: u8,
+        span: u8,
+        me: u8,
+        row: [u8; 64],
+        first: Send,
+        moved: Moved,
+    ) -> Acted
+        requires { ⌜ FreshRow (treeOf form span) n me self row ⌝ }
+        requires { ⌜ self .awaited ≡ awaiting (treeOf form span) n me (self .marks) (self .heard) ⌝ }
+        ensures { λ r. ⌜ r ≡ settling (treeOf form span) n me (saying self first) moved ⌝ }
     {
-        let end = self.settled(n, me, row);
+        let end = self.settled(n, form, span, me, row);
         let rank = end.rank;
         let second = end.send;
         Acted {
@@ -280,45 +290,45 @@ impl Rank {
     }
 
     // The rank enters with word w.
-    pub fn enter(mut self, n: u8, me: u8, row: [u8; 64], w: u32) -> Acted
-        requires { ⌜ FreshRow flat n me self row ⌝ }
-        requires { ⌜ self .awaited ≡ awaiting flat n me (self .marks) (self .heard) ⌝ }
-        ensures { λ r. ⌜ r ≡ entering flat n me w self ⌝ }
+    pub fn enter(mut self, n: u8, form: u8, span: u8, me: u8, row: [u8; 64], w: u32) -> Acted
+        requires { ⌜ FreshRow (treeOf form span) n me self row ⌝ }
+        requires { ⌜ self .awaited ≡ awaiting (treeOf form span) n me (self .marks) (self .heard) ⌝ }
+        ensures { λ r. ⌜ r ≡ entering (treeOf form span) n me w self ⌝ }
     {
         let triple = self.triple;
         self.triple = triple.combine(self.propose(w));
         self.phase = GATHERING;
-        self.settle(n, me, row, Send::silent(), Moved::nobody())
+        self.settle(n, form, span, me, row, Send::silent(), Moved::nobody())
     }
 
     // UP x from q.
-    pub fn up(mut self, n: u8, me: u8, row: [u8; 64], q: u8, x: Triple) -> Acted
-        requires { ⌜ FreshRow flat n me self row ⌝ }
-        requires { ⌜ self .awaited ≡ awaiting flat n me (self .marks) (self .heard) ⌝ }
+    pub fn up(mut self, n: u8, form: u8, span: u8, me: u8, row: [u8; 64], q: u8, x: Triple) -> Acted
+        requires { ⌜ FreshRow (treeOf form span) n me self row ⌝ }
+        requires { ⌜ self .awaited ≡ awaiting (treeOf form span) n me (self .marks) (self .heard) ⌝ }
         requires { ⌜ q < n ⌝ }
-        ensures { λ r. ⌜ r ≡ takingUp flat n me q x self ⌝ }
+        ensures { λ r. ⌜ r ≡ takingUp (treeOf form span) n me q x self ⌝ }
     {
         if self.phase == DECIDED {
             let result = self.result;
             let told = Send::down(result, sets::only(q));
-            return self.settle(n, me, row, told, Moved::nobody());
+            return self.settle(n, form, span, me, row, told, Moved::nobody());
         }
         self.heard = sets::with(self.heard, q);
         self.owed = sets::with(self.owed, q);
         self.awaited = sets::minus(self.awaited, sets::only(q));
         let triple = self.triple;
         self.triple = triple.combine(x);
-        self.settle(n, me, row, Send::silent(), Moved::nobody())
+        self.settle(n, form, span, me, row, Send::silent(), Moved::nobody())
     }
 
     // DOWN x.
-    pub fn down(self, n: u8, me: u8, row: [u8; 64], x: Triple) -> Acted
-        requires { ⌜ FreshRow flat n me self row ⌝ }
-        requires { ⌜ self .awaited ≡ awaiting flat n me (self .marks) (self .heard) ⌝ }
-        ensures { λ r. ⌜ r ≡ takingDown flat n me x self ⌝ }
+    pub fn down(self, n: u8, form: u8, span: u8, me: u8, row: [u8; 64], x: Triple) -> Acted
+        requires { ⌜ FreshRow (treeOf form span) n me self row ⌝ }
+        requires { ⌜ self .awaited ≡ awaiting (treeOf form span) n me (self .marks) (self .heard) ⌝ }
+        ensures { λ r. ⌜ r ≡ takingDown (treeOf form span) n me x self ⌝ }
     {
         if (self.phase == GATHERING) | (self.phase == WAITING) {
-            let end = self.decide(n, me, row, x);
+            let end = self.decide(n, form, span, me, row, x);
             let rank = end.rank;
             let first = end.send;
             return Acted {
@@ -340,13 +350,23 @@ impl Rank {
 
     // A new view, with its table, who moved by it, and who of these came here: awaited are those who stayed and those who came, if not heard and
     // not marked.
-    fn view(mut self, n: u8, me: u8, marks: u64, row: [u8; 64], moved: u64, gained: u64) -> Rank
-        requires { ⌜ FreshRow flat n me (viewing flat n me marks self) row ⌝ }
-        requires { ⌜ self .awaited ≡ awaiting flat n me (self .marks) (self .heard) ⌝ }
+    fn view(
+        mut self,
+        n: u8,
+        form: u8,
+        span: u8,
+        me: u8,
+        marks: u64,
+        row: [u8; 64],
+        moved: u64,
+        gained: u64,
+    ) -> Rank
+        requires { ⌜ FreshRow (treeOf form span) n me (viewing (treeOf form span) n me marks self) row ⌝ }
+        requires { ⌜ self .awaited ≡ awaiting (treeOf form span) n me (self .marks) (self .heard) ⌝ }
         requires { ⌜ ((p : ℕ) → has marks p ≡ false → has (self .marks) p ≡ false) ⌝ }
-        requires { ⌜ ((p : ℕ) → p < n → has marks p ≡ false → has moved p ≡ false → parent flat marks p ≡ parent flat (self .marks) p) ⌝ }
+        requires { ⌜ ((p : ℕ) → p < n → has marks p ≡ false → has moved p ≡ false → parent (treeOf form span) marks p ≡ parent (treeOf form span) (self .marks) p) ⌝ }
         requires { ⌜ gained ≡ meet moved (setOf (λ p. eqb (getD row p 0) me) 64) ⌝ }
-        ensures { λ r. ⌜ r ≡ viewing flat n me marks self ⌝ }
+        ensures { λ r. ⌜ r ≡ viewing (treeOf form span) n me marks self ⌝ }
     {
         let stayed = sets::minus(self.awaited, moved);
         let unheard = sets::minus(sets::union(stayed, gained), self.heard);
@@ -356,27 +376,27 @@ impl Rank {
     }
 
     // ASK from q: every rank below q is dead.
-    pub fn ask(self, n: u8, me: u8, row: [u8; 64], q: u8) -> Acted
-        requires { ⌜ FreshRow flat n me self row ⌝ }
-        requires { ⌜ self .awaited ≡ awaiting flat n me (self .marks) (self .heard) ⌝ }
+    pub fn ask(self, n: u8, form: u8, span: u8, me: u8, row: [u8; 64], q: u8) -> Acted
+        requires { ⌜ FreshRow (treeOf form span) n me self row ⌝ }
+        requires { ⌜ self .awaited ≡ awaiting (treeOf form span) n me (self .marks) (self .heard) ⌝ }
         requires { ⌜ q < n ⌝ }
-        ensures { λ r. ⌜ r ≡ takingAsk flat n me q self ⌝ }
+        ensures { λ r. ⌜ r ≡ takingAsk (treeOf form span) n me q self ⌝ }
     {
-        let m = tree::mend_below(n, self.marks, row, q);
+        let m = tree::mend_below(n, form, span, self.marks, row, q);
         let table = m.table;
         let moved = m.moved;
         let gained = tree::pointing(table, moved.ranks, me);
-        let seen = self.view(n, me, m.marks, table, moved.ranks, gained);
-        let reply = seen.answer(n, me, table, q);
+        let seen = self.view(n, form, span, me, m.marks, table, moved.ranks, gained);
+        let reply = seen.answer(n, form, span, me, table, q);
         let rank = reply.rank;
-        rank.settle(n, me, table, reply.send, moved)
+        rank.settle(n, form, span, me, table, reply.send, moved)
     }
 
     // What an ASK from q means to a rank that has marked all below q: DOWN if decided, else UP if q is now the parent.
-    fn answer(mut self, n: u8, me: u8, row: [u8; 64], q: u8) -> Said
-        requires { ⌜ FreshRow flat n me self row ⌝ }
+    fn answer(mut self, n: u8, form: u8, span: u8, me: u8, row: [u8; 64], q: u8) -> Said
+        requires { ⌜ FreshRow (treeOf form span) n me self row ⌝ }
         requires { ⌜ q < n ⌝ }
-        ensures { λ r. ⌜ r ≡ asked flat n me q self ⌝ }
+        ensures { λ r. ⌜ r ≡ asked (treeOf form span) n me q self ⌝ }
     {
         if self.phase == DECIDED {
             let result = self.result;
@@ -397,9 +417,9 @@ impl Rank {
     }
 
     // Waiting, and the parent died: reports to the new parent, or gathers again as the root and asks all children.
-    fn orphan(mut self, n: u8, me: u8, row: [u8; 64]) -> Said
-        requires { ⌜ FreshRow flat n me self row ⌝ }
-        ensures { λ r. ⌜ r ≡ orphaned flat n me self ⌝ }
+    fn orphan(mut self, n: u8, form: u8, span: u8, me: u8, row: [u8; 64]) -> Said
+        requires { ⌜ FreshRow (treeOf form span) n me self row ⌝ }
+        ensures { λ r. ⌜ r ≡ orphaned (treeOf form span) n me self ⌝ }
     {
         let parent = row[me as usize];
         if parent != sets::NONE {
@@ -408,7 +428,7 @@ impl Rank {
                 send: self.report(parent),
             };
         }
-        let children = tree::children_of(n, self.marks, row, me);
+        let children = tree::children_of(n, form, span, self.marks, row, me);
         self.heard = 0;
         self.awaited = children;
         self.phase = GATHERING;
@@ -419,11 +439,11 @@ impl Rank {
     }
 
     // Told that q is dead.
-    pub fn notice(self, n: u8, me: u8, row: [u8; 64], q: u8) -> Acted
-        requires { ⌜ FreshRow flat n me self row ⌝ }
-        requires { ⌜ self .awaited ≡ awaiting flat n me (self .marks) (self .heard) ⌝ }
+    pub fn notice(self, n: u8, form: u8, span: u8, me: u8, row: [u8; 64], q: u8) -> Acted
+        requires { ⌜ FreshRow (treeOf form span) n me self row ⌝ }
+        requires { ⌜ self .awaited ≡ awaiting (treeOf form span) n me (self .marks) (self .heard) ⌝ }
         requires { ⌜ q < n ⌝ }
-        ensures { λ r. ⌜ r ≡ noticing flat n me q self ⌝ }
+        ensures { λ r. ⌜ r ≡ noticing (treeOf form span) n me q self ⌝ }
     {
         if sets::member(self.marks, q) {
             return Acted {
@@ -434,30 +454,30 @@ impl Rank {
                 moved: Moved::nobody(),
             };
         }
-        let m = tree::mend(n, self.marks, row, q);
+        let m = tree::mend(n, form, span, self.marks, row, q);
         let table = m.table;
         let moved = m.moved;
-        let gained = tree::gained(n, self.marks, q, table, moved.ranks, me);
-        let seen = self.view(n, me, m.marks, table, moved.ranks, gained);
-        let said = self.bereave(n, me, row, q, seen, table, gained);
+        let gained = tree::gained(n, form, span, self.marks, q, table, moved.ranks, me);
+        let seen = self.view(n, form, span, me, m.marks, table, moved.ranks, gained);
+        let said = self.bereave(n, form, span, me, row, q, seen, table, gained);
         let rank = said.rank;
-        rank.settle(n, me, table, said.send, moved)
+        rank.settle(n, form, span, me, table, said.send, moved)
     }
 
     // Whether it waits, and q was its parent.
-    fn lost_parent(self, n: u8, me: u8, row: [u8; 64], q: u8) -> bool
-        requires { ⌜ FreshRow flat n me self row ⌝ }
-        ensures { λ t. ⌜ t ≡ inPhase waiting self && eqb (parentOf flat me self) q ⌝ }
+    fn lost_parent(self, n: u8, form: u8, span: u8, me: u8, row: [u8; 64], q: u8) -> bool
+        requires { ⌜ FreshRow (treeOf form span) n me self row ⌝ }
+        ensures { λ t. ⌜ t ≡ inPhase waiting self && eqb (parentOf (treeOf form span) me self) q ⌝ }
     {
         (self.phase == WAITING) & (row[me as usize] == q)
     }
 
     // Whether it gathers without a parent, and q was its child.
-    fn lost_child(self, n: u8, me: u8, row: [u8; 64], q: u8) -> bool
-        requires { ⌜ FreshRow flat n me self row ⌝ }
+    fn lost_child(self, n: u8, form: u8, span: u8, me: u8, row: [u8; 64], q: u8) -> bool
+        requires { ⌜ FreshRow (treeOf form span) n me self row ⌝ }
         requires { ⌜ q < n ⌝ }
         requires { ⌜ has (self .marks) q ≡ false ⌝ }
-        ensures { λ t. ⌜ t ≡ inPhase gathering self && eqb (parentOf flat me self) none && has (childrenOf flat n me self) q ⌝ }
+        ensures { λ t. ⌜ t ≡ inPhase gathering self && eqb (parentOf (treeOf form span) me self) none && has (childrenOf (treeOf form span) n me self) q ⌝ }
     {
         (self.phase == GATHERING) & (row[me as usize] == sets::NONE) & (row[q as usize] == me)
     }
@@ -467,6 +487,8 @@ impl Rank {
     fn bereave(
         self,
         n: u8,
+        form: u8,
+        span: u8,
         me: u8,
         row: [u8; 64],
         q: u8,
@@ -474,17 +496,17 @@ impl Rank {
         table: [u8; 64],
         gained: u64,
     ) -> Said
-        requires { ⌜ FreshRow flat n me self row ⌝ }
-        requires { ⌜ FreshRow flat n me seen table ⌝ }
-        requires { ⌜ gained ≡ meet (childrenOf flat n me seen) (children flat n (self .marks) q) ⌝ }
+        requires { ⌜ FreshRow (treeOf form span) n me self row ⌝ }
+        requires { ⌜ FreshRow (treeOf form span) n me seen table ⌝ }
+        requires { ⌜ gained ≡ meet (childrenOf (treeOf form span) n me seen) (children (treeOf form span) n (self .marks) q) ⌝ }
         requires { ⌜ q < n ⌝ }
         requires { ⌜ has (self .marks) q ≡ false ⌝ }
-        ensures { λ r. ⌜ r ≡ bereaved flat n me q self seen ⌝ }
+        ensures { λ r. ⌜ r ≡ bereaved (treeOf form span) n me q self seen ⌝ }
     {
-        if self.lost_parent(n, me, row, q) {
-            return seen.orphan(n, me, table);
+        if self.lost_parent(n, form, span, me, row, q) {
+            return seen.orphan(n, form, span, me, table);
         }
-        if self.lost_child(n, me, row, q) {
+        if self.lost_child(n, form, span, me, row, q) {
             return Said {
                 rank: seen,
                 send: Send::ask(gained),
@@ -494,9 +516,9 @@ impl Rank {
     }
 
     // The acknowledged set becomes the marks.
-    pub fn acknowledge(mut self, n: u8, me: u8, row: [u8; 64]) -> Acted
-        requires { ⌜ FreshRow flat n me self row ⌝ }
-        ensures { λ r. ⌜ r ≡ acknowledging flat n me self ⌝ }
+    pub fn acknowledge(mut self, n: u8, form: u8, span: u8, me: u8, row: [u8; 64]) -> Acted
+        requires { ⌜ FreshRow (treeOf form span) n me self row ⌝ }
+        ensures { λ r. ⌜ r ≡ acknowledging (treeOf form span) n me self ⌝ }
     {
         self.acknowledged = self.marks;
         Acted {

@@ -43,7 +43,7 @@ fn described(c: Command) -> Rank {
     }
 }
 
-// Runs a rule on rank `me` of n, whose awaited set and whose row are the fresh ones: enter, up, down, ask, a notice, or with k
+// Runs a rule on rank `me` of n, in the flat form, whose awaited set and whose row are the fresh ones: enter, up, down, ask, a notice, or with k
 // acknowledge.
 fn act(before: Rank, n: u8, me: u8, rule: u8, q: u8, x: Triple) {
     if 64 < n {
@@ -55,16 +55,19 @@ fn act(before: Rank, n: u8, me: u8, rule: u8, q: u8, x: Triple) {
     if n <= q {
         return;
     }
-    let row = tree::fresh(n, before.marks);
+    let row = tree::fresh(n, tree::FLAT, 1, before.marks);
     let mut r = before;
-    r.awaited = sets::minus(tree::children_of(n, r.marks, row, me), r.heard);
+    r.awaited = sets::minus(
+        tree::children_of(n, tree::FLAT, 1, r.marks, row, me),
+        r.heard,
+    );
     let a = match rule {
-        b'e' => r.enter(n, me, row, x.word),
-        b'u' => r.up(n, me, row, q, x),
-        b'd' => r.down(n, me, row, x),
-        b'a' => r.ask(n, me, row, q),
-        b'k' => r.acknowledge(n, me, row),
-        _ => r.notice(n, me, row, q),
+        b'e' => r.enter(n, tree::FLAT, 1, me, row, x.word),
+        b'u' => r.up(n, tree::FLAT, 1, me, row, q, x),
+        b'd' => r.down(n, tree::FLAT, 1, me, row, x),
+        b'a' => r.ask(n, tree::FLAT, 1, me, row, q),
+        b'k' => r.acknowledge(n, tree::FLAT, 1, me, row),
+        _ => r.notice(n, tree::FLAT, 1, me, row, q),
     };
     show(a);
 }

@@ -6,6 +6,7 @@ use mathlib.Core.List.{List}
 use lib.Dec.{ltb}
 use lib.ListN.{length}
 use Rattle.tree.specs.Tree.{flat}
+use Rattle.tree.specs.Forms.{flatForm}
 use Rattle.events.specs.declared.Event.{Event}
 use Rattle.state.specs.declared.State.{State}
 use Rattle.state.specs.Starting.{freshState}
@@ -24,7 +25,7 @@ stepping events (suc left) k s out =
 
 unfoldable pub steppedOn : List ℕ → List ℕ → Header → Run
 steppedOn file out (Good n events) =
-    cond (ltb (length out) (3 * events)) (refusedRun 25 out) (stepping (eventAt file) events 0 (freshState flat n) out)
+    cond (ltb (length out) (3 * events)) (refusedRun 25 out) (stepping (eventAt file) events 0 (freshState flat n flatForm 1) out)
 steppedOn file out NoHeader = refusedRun (numberOf NoHeader) out
 steppedOn file out WrongMark = refusedRun (numberOf WrongMark) out
 steppedOn file out WrongVersion = refusedRun (numberOf WrongVersion) out

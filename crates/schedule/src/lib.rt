@@ -5,7 +5,6 @@ ghost use mathlib.Core.Path.{_≡_};
 ghost use Prim.Native.Nat.{_+_, _*_, _≤_};
 ghost use lib.ListN.{length};
 ghost use mathlib.Core.List.{[]};
-ghost use Rattle.tree.specs.Tree.{flat};
 ghost use Rattle.playing.specs.Playing.{spelt};
 ghost use Rattle.files.specs.Files.{eventAt};
 ghost use Rattle.schedule.specs.Runs.{refusedRun, run};
@@ -29,16 +28,16 @@ fn refuse(answer: u32) -> Ran
     ensures { λ r. ⌜ r .answer ≡ answer ⌝ }
     ensures { λ r. ⌜ r .state ≡ refusedRun answer [] .state ⌝ }
 {
-    let nobody = state::start(0);
+    let nobody = state::start(0, 0, 1);
     let state = nobody.state;
     Ran { answer, state }
 }
 
-// Entry point: runs a schedule file and writes answer, sent and moved's count for each event. Refuses with 20, 21, 22, 1, 24, 23 and 25.
+// Entry point: runs a schedule file, which means the flat form with box size 1, and writes answer, sent and moved's count for each event. Refuses with 20, 21, 22, 1, 24, 23 and 25.
 pub fn run(file: &[u8], out: &mut [u32]) -> Ran
-    ensures { λ r. ⌜ r .answer ≡ run flat (now (file .entry)) (now (out .entry)) .answer ⌝ }
-    ensures { λ r. ⌜ r .state ≡ run flat (now (file .entry)) (now (out .entry)) .state ⌝ }
-    ensures { λ r. ⌜ now (out .exit) ≡ run flat (now (file .entry)) (now (out .entry)) .answers ⌝ }
+    ensures { λ r. ⌜ r .answer ≡ run (now (file .entry)) (now (out .entry)) .answer ⌝ }
+    ensures { λ r. ⌜ r .state ≡ run (now (file .entry)) (now (out .entry)) .state ⌝ }
+    ensures { λ r. ⌜ now (out .exit) ≡ run (now (file .entry)) (now (out .entry)) .answers ⌝ }
 {
     let h = files::read_header(file);
     let Header::Good(n, events) = h else {
@@ -48,7 +47,7 @@ pub fn run(file: &[u8], out: &mut [u32]) -> Ran
     if out.len() < 3 * total {
         return refuse(25);
     }
-    let started = state::start(n as u32);
+    let started = state::start(n as u32, tree::FLAT as u32, 1);
     let fresh = started.state;
     spell(file, total, out);
     Ran {

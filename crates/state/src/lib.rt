@@ -4,14 +4,18 @@ use rank::Rank;
 use rank::Triple;
 ghost use mathlib.Core.Path.{_≡_};
 ghost use Prim.Native.Nat.{_≤_};
-ghost use Rattle.tree.specs.Tree.{flat, fresh, row};
+ghost use Rattle.tree.specs.Tree.{fresh, row};
+ghost use Rattle.tree.specs.Forms.{treeOf};
+ghost use Rattle.tree.specs.Calls.{misshapen};
 ghost use Rattle.state.specs.States.{joined, zeroRank};
-ghost use Rattle.state.specs.Starting.{firstRank, firstRow, started};
+ghost use Rattle.state.specs.Starting.{emptyState, firstRank, firstRow, freshState, started};
 
-// The group record: its size, how many messages are in flight, the dead, the ranks and the messages. The two small fields come first, so that no
-// gap lies beside an array.
+// The group record: its size, the form and the box size of its tree, how many messages are in flight, the dead, the ranks and the messages. The
+// small fields come first, so that no gap lies beside an array.
 pub struct Group {
     pub n: u8,
+    pub form: u8,
+    pub span: u8,
     pub count: u8,
     pub dead: u64,
     pub ranks: [Rank; 64],
@@ -60,25 +64,25 @@ fn no_rank() -> Rank
 }
 
 // The records of n fresh ranks.
-fn first_ranks(n: u8, table: [u8; 64]) -> [Rank; 64]
+fn first_ranks(n: u8, form: u8, span: u8, table: [u8; 64]) -> [Rank; 64]
     requires { ⌜ n ≤ 64 ⌝ }
-    requires { ⌜ table ≡ fresh flat n 0 ⌝ }
-    ensures { λ r. ⌜ r ≡ row (firstRank flat n) 64 ⌝ }
+    requires { ⌜ table ≡ fresh (treeOf form span) n 0 ⌝ }
+    ensures { λ r. ⌜ r ≡ row (firstRank (treeOf form span) n) 64 ⌝ }
 {
     let mut ranks = [no_rank(); 64];
     let mut i: u8 = 0;
     while i < n {
-        ranks[i as usize] = Rank::fresh(n, i, table);
+        ranks[i as usize] = Rank::fresh(n, form, span, i, table);
         i += 1;
     }
     ranks
 }
 
 // Their rows.
-fn first_rows(n: u8, table: [u8; 64]) -> [[u8; 64]; 64]
+fn first_rows(n: u8, form: u8, span: u8, table: [u8; 64]) -> [[u8; 64]; 64]
     requires { ⌜ n ≤ 64 ⌝ }
-    requires { ⌜ table ≡ fresh flat n 0 ⌝ }
-    ensures { λ r. ⌜ r ≡ row (firstRow flat n) 64 ⌝ }
+    requires { ⌜ table ≡ fresh (treeOf form span) n 0 ⌝ }
+    ensures { λ r. ⌜ r ≡ row (firstRow (treeOf form span) n) 64 ⌝ }
 {
     let mut tables = [[sets::NONE; 64]; 64];
     let mut i: u8 = 0;
@@ -89,34 +93,53 @@ fn first_rows(n: u8, table: [u8; 64]) -> [[u8; 64]; 64]
     tables
 }
 
-// Entry point: a group of n fresh ranks, all living, with nothing in flight. Refuses a bad size with 1.
-pub fn start(n: u32) -> Started
-    ensures { λ r. ⌜ r ≡ started flat n ⌝ }
+// The group of a refused start.
+fn empty_state() -> State
+    ensures { λ r. ⌜ r ≡ emptyState ⌝ }
 {
-    if tree::wrong_size(n) {
-        let nobody = Group {
-            n: 0,
-            dead: 0,
-            count: 0,
-            ranks: [no_rank(); 64],
-            net: [net::nothing(); 128],
-        };
-        return Started {
-            answer: 1,
-            state: join(nobody, [[0u8; 64]; 64]),
-        };
-    }
-    let size = n as u8;
-    let table = tree::fresh(size, 0);
     let group = Group {
-        n: size,
-        dead: 0,
+        n: 0,
+        form: 0,
+        span: 0,
         count: 0,
-        ranks: first_ranks(size, table),
+        dead: 0,
+        ranks: [no_rank(); 64],
         net: [net::nothing(); 128],
     };
+    join(group, [[0u8; 64]; 64])
+}
+
+// A group of n fresh ranks.
+fn fresh_state(n: u8, form: u8, span: u8) -> State
+    requires { ⌜ misshapen n form span ≡ 0 ⌝ }
+    ensures { λ r. ⌜ r ≡ freshState (treeOf form span) n form span ⌝ }
+{
+    let table = tree::fresh(n, form, span, 0);
+    let group = Group {
+        n,
+        form,
+        span,
+        count: 0,
+        dead: 0,
+        ranks: first_ranks(n, form, span, table),
+        net: [net::nothing(); 128],
+    };
+    join(group, first_rows(n, form, span, table))
+}
+
+// Entry point: a group of n fresh ranks in a form with a box size, all living, with nothing in flight. Refuses with 1, 50 or 51.
+pub fn start(n: u32, form: u32, span: u32) -> Started
+    ensures { λ r. ⌜ r ≡ started (treeOf form span) n form span ⌝ }
+{
+    let answer = tree::misshapen(n, form, span);
+    if answer != 0 {
+        return Started {
+            answer,
+            state: empty_state(),
+        };
+    }
     Started {
-        answer: 0,
-        state: join(group, first_rows(size, table)),
+        answer,
+        state: fresh_state(n as u8, form as u8, span as u8),
     }
 }

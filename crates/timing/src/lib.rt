@@ -4,7 +4,8 @@ use state::State;
 ghost use mathlib.Core.Path.{_≡_};
 ghost use Prim.Native.Nat.{_*_, _≤_, _<_};
 ghost use lib.ListN.{length};
-ghost use Rattle.tree.specs.Tree.{flat};
+ghost use Rattle.tree.specs.Forms.{treeOf};
+ghost use Rattle.state.specs.States.{ownTree};
 ghost use Rattle.state.specs.Starting.{started};
 ghost use Rattle.playing.specs.Playing.{eventIn, played};
 ghost use Rattle.batches.specs.Batches.{batch};
@@ -13,7 +14,7 @@ ghost use Rattle.batches.specs.Batches.{batch};
 fn step_all(events: &[u32], total: usize, out: &mut [u32], mut s: State)
     requires { ⌜ 3 * total ≤ length (now events) ⌝ }
     requires { ⌜ 3 * total ≤ length (now out) ⌝ }
-    ensures { λ _. ⌜ now (out .exit) ≡ played flat (eventIn (now (events .entry))) total 0 s (now (out .entry)) .answers ⌝ }
+    ensures { λ _. ⌜ now (out .exit) ≡ played (ownTree s) (eventIn (now (events .entry))) total 0 s (now (out .entry)) .answers ⌝ }
 {
     let mut k: usize = 0;
     while k < total {
@@ -45,7 +46,7 @@ fn handful_end(size: u32, total: usize, k: usize) -> usize
 fn batch_all(size: u32, events: &[u32], total: usize, out: &mut [u32], mut s: State)
     requires { ⌜ 3 * total ≤ length (now events) ⌝ }
     requires { ⌜ 3 * total ≤ length (now out) ⌝ }
-    ensures { λ _. ⌜ now (out .exit) ≡ played flat (eventIn (now (events .entry))) total 0 s (now (out .entry)) .answers ⌝ }
+    ensures { λ _. ⌜ now (out .exit) ≡ played (ownTree s) (eventIn (now (events .entry))) total 0 s (now (out .entry)) .answers ⌝ }
 {
     let mut k: usize = 0;
     while k < total {
@@ -58,11 +59,17 @@ fn batch_all(size: u32, events: &[u32], total: usize, out: &mut [u32], mut s: St
     }
 }
 
-// Starts a group of n and steps it event by event.
+// Starts a group of n, in a form with a box size, and steps it event by event.
 #[no_mangle]
-pub extern "C" fn duha_one_by_one(n: u32, events: &[u32], out: &mut [u32]) -> u32
-    ensures { λ r. ⌜ r ≡ batch flat (now (events .entry)) (now (out .entry)) (started flat n .state) .answer ⌝ }
-    ensures { λ r. ⌜ now (out .exit) ≡ batch flat (now (events .entry)) (now (out .entry)) (started flat n .state) .answers ⌝ }
+pub extern "C" fn duha_one_by_one(
+    n: u32,
+    form: u32,
+    span: u32,
+    events: &[u32],
+    out: &mut [u32],
+) -> u32
+    ensures { λ r. ⌜ r ≡ batch (ownTree (started (treeOf form span) n form span .state)) (now (events .entry)) (now (out .entry)) (started (treeOf form span) n form span .state) .answer ⌝ }
+    ensures { λ r. ⌜ now (out .exit) ≡ batch (ownTree (started (treeOf form span) n form span .state)) (now (events .entry)) (now (out .entry)) (started (treeOf form span) n form span .state) .answers ⌝ }
 {
     if events.len() % 3 != 0 {
         return 40;
@@ -71,17 +78,24 @@ pub extern "C" fn duha_one_by_one(n: u32, events: &[u32], out: &mut [u32]) -> u3
     if out.len() < 3 * total {
         return 41;
     }
-    let started = state::start(n);
+    let started = state::start(n, form, span);
     let fresh = started.state;
     step_all(events, total, out, fresh);
     0
 }
 
-// Starts a group of n and steps it by handfuls of `size` events.
+// Starts a group of n, in a form with a box size, and steps it by handfuls of `size` events.
 #[no_mangle]
-pub extern "C" fn duha_in_handfuls(n: u32, size: u32, events: &[u32], out: &mut [u32]) -> u32
-    ensures { λ r. ⌜ r ≡ batch flat (now (events .entry)) (now (out .entry)) (started flat n .state) .answer ⌝ }
-    ensures { λ r. ⌜ now (out .exit) ≡ batch flat (now (events .entry)) (now (out .entry)) (started flat n .state) .answers ⌝ }
+pub extern "C" fn duha_in_handfuls(
+    n: u32,
+    form: u32,
+    span: u32,
+    size: u32,
+    events: &[u32],
+    out: &mut [u32],
+) -> u32
+    ensures { λ r. ⌜ r ≡ batch (ownTree (started (treeOf form span) n form span .state)) (now (events .entry)) (now (out .entry)) (started (treeOf form span) n form span .state) .answer ⌝ }
+    ensures { λ r. ⌜ now (out .exit) ≡ batch (ownTree (started (treeOf form span) n form span .state)) (now (events .entry)) (now (out .entry)) (started (treeOf form span) n form span .state) .answers ⌝ }
 {
     if events.len() % 3 != 0 {
         return 40;
@@ -90,7 +104,7 @@ pub extern "C" fn duha_in_handfuls(n: u32, size: u32, events: &[u32], out: &mut 
     if out.len() < 3 * total {
         return 41;
     }
-    let started = state::start(n);
+    let started = state::start(n, form, span);
     let fresh = started.state;
     batch_all(size, events, total, out, fresh);
     0

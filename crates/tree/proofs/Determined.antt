@@ -19,6 +19,7 @@ use Rattle.tree.proofs.mend.Reads as mend
 use Rattle.tree.proofs.gained.Reads as gained
 use Rattle.tree.proofs.mend_below.Reads as mend-below
 use Rattle.tree.proofs.wrong_size.Reads as wrong-size
+use Rattle.tree.proofs.misshapen.Reads as misshapen
 use Rattle.tree.proofs.same.Reads as same
 use Rattle.tree.proofs.mark.Reads as mark
 use Rattle.tree.proofs.climb.Reads as climb
@@ -49,6 +50,9 @@ mend-below-determined κs a t u x y e f = alike e f
 
 pub wrong-size-determined : (κs : Lfts 0) (a : _) (t u : Bool) (x y : _) → wrong-size.Post κs a t x → wrong-size.Post κs a u y → t ≡ u
 wrong-size-determined κs a t u x y e f = alike e f
+
+pub misshapen-determined : (κs : Lfts 0) (a : _) (t u : ℕ) (x y : _) → misshapen.Post κs a t x → misshapen.Post κs a u y → t ≡ u
+misshapen-determined κs a t u x y e f = alike e f
 
 pub same-determined : (κs : Lfts 0) (a : _) (t u : Bool) (x y : _) → same.Post κs a t x → same.Post κs a u y → t ≡ u
 same-determined κs a t u x y e f = alike e f

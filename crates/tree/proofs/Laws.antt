@@ -4,6 +4,7 @@ pub mod Parents
 pub mod Children
 pub mod Ancestors
 pub mod Flat
+pub mod Forms
 pub mod Finding
 pub mod Heirs
 pub mod Mending

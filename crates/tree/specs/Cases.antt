@@ -6,6 +6,7 @@ use lib.Dec.{eqb}
 use lib.ListN.{replicate}
 use Rattle.sets.specs.Sets.{has, union, meet, below, count, every}
 use Rattle.tree.specs.Tree.{flat, fresh, digits}
+use Rattle.tree.specs.Forms.{flatForm}
 use Rattle.tree.specs.Calls.{same, marked, climbed, movedBelow}
 use Rattle.tree.specs.Examples.{tallies, tells}
 use Rattle.tree.specs.declared.Marked.{Marked}
@@ -32,37 +33,37 @@ inEveryView f n = every (λ marks. every (f n marks) (n - 1)) (2 ^ n)
 unfoldable pub cases : List Bool
 cases =
     -- a mark refused with 1: sizes 0 and 65; 2 and 4 apply as well, and the lowest is given
-    answers (marked flat 0 5 damaged 0) 1 5 damaged
-    ∷ answers (marked flat 65 5 damaged 65) 1 5 damaged
+    answers (marked 0 flatForm 1 5 damaged 0) 1 5 damaged
+    ∷ answers (marked 65 flatForm 1 5 damaged 65) 1 5 damaged
     -- with 2: marks outside the group; a table that isn't the fresh one
-    ∷ answers (marked flat 2 4 (fresh flat 2 4) 0) 2 4 (fresh flat 2 4)
-    ∷ answers (marked flat 2 1 damaged 0) 2 1 damaged
+    ∷ answers (marked 2 flatForm 1 4 (fresh flat 2 4) 0) 2 4 (fresh flat 2 4)
+    ∷ answers (marked 2 flatForm 1 1 damaged 0) 2 1 damaged
     -- wrong by 2 and by 4: 2
-    ∷ answers (marked flat 2 1 damaged 2) 2 1 damaged
-    ∷ answers (marked flat 2 4 (fresh flat 2 4) 2) 2 4 (fresh flat 2 4)
+    ∷ answers (marked 2 flatForm 1 1 damaged 2) 2 1 damaged
+    ∷ answers (marked 2 flatForm 1 4 (fresh flat 2 4) 2) 2 4 (fresh flat 2 4)
     -- with 4
-    ∷ answers (marked flat 2 1 (fresh flat 2 1) 2) 4 1 (fresh flat 2 1)
+    ∷ answers (marked 2 flatForm 1 1 (fresh flat 2 1) 2) 4 1 (fresh flat 2 1)
     -- a marked rank again; even the last unmarked rank
-    ∷ answers (marked flat 2 1 (fresh flat 2 1) 0) 0 1 (fresh flat 2 1)
-    ∷ answers (marked flat 2 1 (fresh flat 2 1) 1) 0 3 (fresh flat 2 3)
+    ∷ answers (marked 2 flatForm 1 1 (fresh flat 2 1) 0) 0 1 (fresh flat 2 1)
+    ∷ answers (marked 2 flatForm 1 1 (fresh flat 2 1) 1) 0 3 (fresh flat 2 3)
     -- an ASK from 3 to one of five ranks that knows no death: 1, then 2 and 3, then 3 and 4 move, the sum is 5 and the set has 4; in a smaller
     -- group no ASK moves a rank twice
     ∷ tallies (movedBelow flat 5 0 3) 0b11110 5 ∷ not (nobodyTwice 5 0 3) ∷ every (inEveryView nobodyTwice) 5
     -- an ASK from 2 to one of four: rank 1 moves at the first mark and is marked by the second; in a smaller group no ASK does that
     ∷ tallies (movedBelow flat 4 0 2) 0b1110 3 ∷ not (nobodyMarked 4 0 2) ∷ every (inEveryView nobodyMarked) 4
     -- a climb refused with 1 or 4: rank 255 and 0 links; 1 before 4, and 4 before 6
-    ∷ tells (climbed flat 0 0 0 9) 1 255 0
-    ∷ tells (climbed flat 65 0 65 9) 1 255 0
-    ∷ tells (climbed flat 2 0 2 9) 4 255 0
-    ∷ tells (climbed flat 2 4 2 9) 4 255 0
+    ∷ tells (climbed 0 flatForm 1 0 0 9) 1 255 0
+    ∷ tells (climbed 65 flatForm 1 0 65 9) 1 255 0
+    ∷ tells (climbed 2 flatForm 1 0 2 9) 4 255 0
+    ∷ tells (climbed 2 flatForm 1 4 2 9) 4 255 0
     -- with 6: the rank asked and 0 links
-    ∷ tells (climbed flat 2 2 1 9) 6 1 0
+    ∷ tells (climbed 2 flatForm 1 2 1 9) 6 1 0
     -- with 12: the rank reached and the allowance
-    ∷ tells (climbed flat 8 0 7 0) 12 7 0
-    ∷ tells (climbed flat 8 2 7 1) 12 3 1
+    ∷ tells (climbed 8 flatForm 1 0 7 0) 12 7 0
+    ∷ tells (climbed 8 flatForm 1 2 7 1) 12 3 1
     -- the root by itself; marks at n and above are ignored
-    ∷ tells (climbed flat 8 0 0 0) 0 0 0
-    ∷ tells (climbed flat 8 256 7 3) 0 0 3
+    ∷ tells (climbed 8 flatForm 1 0 0 0) 0 0 0
+    ∷ tells (climbed 8 flatForm 1 256 7 3) 0 0 3
     -- binary digits
     ∷ eqb (digits 0) 0 ∷ eqb (digits 1) 1 ∷ eqb (digits 2) 2 ∷ eqb (digits 3) 2 ∷ eqb (digits 4) 3 ∷ eqb (digits 63) 6
     ∷ []

@@ -5,6 +5,7 @@ use mathlib.Core.List.{List, [], _∷_, _++_}
 use lib.Dec.{eqb}
 use lib.ListN.{replicate}
 use Rattle.tree.specs.Tree.{flat, fresh}
+use Rattle.tree.specs.Forms.{flatForm}
 use Rattle.tree.specs.Calls.{Told, same, marked, climbed}
 use Rattle.tree.specs.declared.Moved.{Moved}
 use Rattle.tree.specs.declared.Marked.{Marked}
@@ -26,19 +27,19 @@ tells t number rank links = eqb (t .number) number && eqb (t .rank) rank && eqb 
 
 -- rank 1 marked; then, from no marks again, 0, then 1, then 2, then 2 again
 unfoldable pub after1 : Marked
-after1 = marked flat 8 0 (fresh flat 8 0) 1
+after1 = marked 8 flatForm 1 0 (fresh flat 8 0) 1
 
 unfoldable pub after0 : Marked
-after0 = marked flat 8 0 (fresh flat 8 0) 0
+after0 = marked 8 flatForm 1 0 (fresh flat 8 0) 0
 
 unfoldable pub after01 : Marked
-after01 = marked flat 8 (after0 .marks) (after0 .table) 1
+after01 = marked 8 flatForm 1 (after0 .marks) (after0 .table) 1
 
 unfoldable pub after012 : Marked
-after012 = marked flat 8 (after01 .marks) (after01 .table) 2
+after012 = marked 8 flatForm 1 (after01 .marks) (after01 .table) 2
 
 unfoldable pub again : Marked
-again = marked flat 8 (after012 .marks) (after012 .table) 2
+again = marked 8 flatForm 1 (after012 .marks) (after012 .table) 2
 
 unfoldable pub examples : List Bool
 examples =
@@ -55,6 +56,6 @@ examples =
     -- 6. Mark 2 again: moved 0.
     ∷ gives again (255 ∷ 255 ∷ 255 ∷ 255 ∷ 3 ∷ 3 ∷ 3 ∷ 3 ∷ []) 0 0
     -- 7. n=64, no marks, climb from 63: root 0, 6 links; allowance 5: refusal 12, rank 1, 5 links.
-    ∷ tells (climbed flat 64 0 63 6) 0 0 6
-    ∷ tells (climbed flat 64 0 63 5) 12 1 5
+    ∷ tells (climbed 64 flatForm 1 0 63 6) 0 0 6
+    ∷ tells (climbed 64 flatForm 1 0 63 5) 12 1 5
     ∷ []

@@ -1,5 +1,6 @@
 pub mod Refusals
 pub mod Tree
+pub mod Forms
 pub mod Relations
 pub mod Calls
 pub mod Examples

@@ -1,4 +1,4 @@
--- Document 01's refusal numbers, each under its words. Answer 0 is acceptance.
+-- Document 01's refusal numbers, and 50 and 51 of request 2026-09, each under its words. Answer 0 is acceptance.
 use Prim.Native.Nat.{ℕ}
 
 abbrev pub accepted : ℕ
@@ -51,3 +51,11 @@ tooMany = 11
 -- allowance too short
 abbrev pub tooShort : ℕ
 tooShort = 12
+
+-- box size not 1 to 64, for the flat form too
+abbrev pub badBox : ℕ
+badBox = 50
+
+-- unknown form
+abbrev pub badForm : ℕ
+badForm = 51

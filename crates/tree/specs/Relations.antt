@@ -1,4 +1,4 @@
--- What the theorems about whole runs ask of ancestor sets. The flat tree has all of it.
+-- What the theorems about whole runs ask of ancestor sets. Each form of tree has all of it.
 use Prim.Native.Nat.{ℕ, _<_}
 use mathlib.Core.Path.{_≡_}
 use mathlib.Core.Bool.{true}

@@ -1,6 +1,6 @@
 -- The tree. A view is the set of ranks marked dead, in a group of n ranks numbered 0 to n - 1.
 -- Ancestors are said over any `above`, the rank next above each, and all else over any ancestor sets `anc`, a word for each rank;
--- the flat tree is one instance.
+-- the flat tree is one instance, and Forms has two more.
 use Prim.Native.Nat.{ℕ, zero, suc, _/_, _^_, _<_}
 use mathlib.Core.Path.{_≡_}
 use mathlib.Core.Bool.{Bool, false, cond, not, _&&_}
@@ -85,6 +85,10 @@ links anc marks p = length (path anc marks p)
 
 unfoldable pub reached : (ℕ → ℕ) → ℕ → ℕ → ℕ → ℕ
 reached anc marks p k = getD (p ∷ path anc marks p) k none
+
+-- How many ancestors p has; all are below p.
+abbrev pub ancestorCount : (ℕ → ℕ) → ℕ → ℕ
+ancestorCount anc p = count (has (anc p)) p
 
 -- A root of a view of n ranks: one of them that is unmarked and has no parent.
 pub record IsRoot (anc : ℕ → ℕ) (n marks r : ℕ) : Type 0 where

@@ -6,8 +6,16 @@ ghost use Prim.Native.Nat.{_+_, _<_, _≤_};
 ghost use lib.Dec.{eqb, ltb};
 ghost use lib.ListN.{getD};
 ghost use Rattle.sets.specs.Sets.{add, below, has, largest, meet, minus, none, setOf, smallest};
-ghost use Rattle.tree.specs.Tree.{children, flat, fresh, half, nobody, parent, row, sized};
-ghost use Rattle.tree.specs.Calls.{andThen, climbed, marked, mended, mendedBelow, markRefused, climbing, same, told, wrongSize};
+ghost use Rattle.tree.specs.Tree.{children, fresh, nobody, parent, row, sized};
+ghost use Rattle.tree.specs.Forms.{aboveIn, headAbove, inNest, inStar, treeOf};
+ghost use Rattle.tree.specs.Calls.{andThen, climbed, climbing, marked, markRefused, mended, mendedBelow, misshapen, notClimbed, same, told, wrongSize};
+
+// Forms of tree.
+pub const FLAT: u8 = 0;
+
+pub const STAR: u8 = 1;
+
+pub const NESTED: u8 = 2;
 
 // The unmarked ranks that moved, and how many; of several marks the union and the sum.
 pub struct Moved {
@@ -35,6 +43,8 @@ pub enum Climbed {
     Root(u8, u32),
     Short(u8, u32),
     WrongSize,
+    WrongBox,
+    WrongForm,
     WrongRank,
     FromMarked(u8),
 }
@@ -69,39 +79,81 @@ impl Moved {
     }
 }
 
-// The rank next above p, for any p but 0: half of p.
-fn above(p: u8) -> u8
-    ensures { λ r. ⌜ r ≡ half p ⌝ }
+// Next above the head of a box: the head of the box whose number is half of this one's.
+fn head_above(span: u8, p: u8) -> u8
+    requires { ⌜ 0 < span ⌝ }
+    ensures { λ r. ⌜ r ≡ headAbove span p ⌝ }
 {
+    p / span / 2 * span
+}
+
+// Next above p where a box's other ranks report to its head.
+fn in_star(span: u8, p: u8) -> u8
+    requires { ⌜ 0 < span ⌝ }
+    ensures { λ r. ⌜ r ≡ inStar span p ⌝ }
+{
+    let place = p % span;
+    if place == 0 {
+        return head_above(span, p);
+    }
+    p - place
+}
+
+// Next above p where they report along a tree that halves places inside the box.
+fn in_nest(span: u8, p: u8) -> u8
+    requires { ⌜ 0 < span ⌝ }
+    ensures { λ r. ⌜ r ≡ inNest span p ⌝ }
+{
+    let place = p % span;
+    if place == 0 {
+        return head_above(span, p);
+    }
+    let head = p - place;
+    head + place / 2
+}
+
+// The rank next above p, for any p but 0.
+fn above(form: u8, span: u8, p: u8) -> u8
+    requires { ⌜ 0 < span ⌝ }
+    ensures { λ r. ⌜ r ≡ aboveIn form span p ⌝ }
+{
+    if form == STAR {
+        return in_star(span, p);
+    }
+    if form == NESTED {
+        return in_nest(span, p);
+    }
     p / 2
 }
 
 // The ancestors of p that a parent is looked for among, the nearest first: as far as the first that is unmarked, and down to the lowest unmarked
 // rank, below which all are marked.
-fn ancestors(marks: u64, p: u8, lowest: u8) -> u64
+fn ancestors(form: u8, span: u8, marks: u64, p: u8, lowest: u8) -> u64
+    requires { ⌜ 0 < span ⌝ }
     requires { ⌜ p < 64 ⌝ }
     requires { ⌜ lowest ≡ smallest (has (minus (below p) marks)) 64 none ⌝ }
-    ensures { λ r. ⌜ cond (eqb (minus r marks) 0) lowest (largest (has (minus r marks)) 64 none) ≡ parent flat marks p ⌝ }
+    ensures { λ r. ⌜ cond (eqb (minus r marks) 0) lowest (largest (has (minus r marks)) 64 none) ≡ parent (treeOf form span) marks p ⌝ }
 {
     let mut found: u64 = 0;
-    let mut at = above(p);
+    let mut at = above(form, span, p);
     while lowest < at {
         found = sets::with(found, at);
         if !sets::member(marks, at) {
             return found;
         }
-        at = above(at);
+        at = above(form, span, at);
     }
     found
 }
 
 // The parent of p: the nearest unmarked ancestor, else the lowest unmarked rank below p, else NONE.
-pub fn parent_of(marks: u64, p: u8) -> u8
+pub fn parent_of(form: u8, span: u8, marks: u64, p: u8) -> u8
+    requires { ⌜ 0 < span ⌝ }
     requires { ⌜ p < 64 ⌝ }
-    ensures { λ r. ⌜ r ≡ parent flat marks p ⌝ }
+    ensures { λ r. ⌜ r ≡ parent (treeOf form span) marks p ⌝ }
 {
     let lowest = sets::smallest(sets::minus(sets::below(p), marks));
-    let near = sets::minus(ancestors(marks, p, lowest), marks);
+    let near = sets::minus(ancestors(form, span, marks, p, lowest), marks);
     if near != 0 {
         return sets::largest(near);
     }
@@ -109,25 +161,26 @@ pub fn parent_of(marks: u64, p: u8) -> u8
 }
 
 // The whole table of a view, worked out from nothing.
-pub fn fresh(n: u8, marks: u64) -> [u8; 64]
+pub fn fresh(n: u8, form: u8, span: u8, marks: u64) -> [u8; 64]
+    requires { ⌜ 0 < span ⌝ }
     requires { ⌜ n ≤ 64 ⌝ }
-    ensures { λ r. ⌜ r ≡ fresh flat n marks ⌝ }
+    ensures { λ r. ⌜ r ≡ fresh (treeOf form span) n marks ⌝ }
 {
     let mut table = [sets::NONE; 64];
     let mut p: u8 = 0;
     while p < n {
-        table[p as usize] = parent_of(marks, p);
+        table[p as usize] = parent_of(form, span, marks, p);
         p += 1;
     }
     table
 }
 
 // The children of p, read off the table.
-pub fn children_of(n: u8, marks: u64, table: [u8; 64], p: u8) -> u64
+pub fn children_of(n: u8, form: u8, span: u8, marks: u64, table: [u8; 64], p: u8) -> u64
     requires { ⌜ n ≤ 64 ⌝ }
     requires { ⌜ p < 64 ⌝ }
-    requires { ⌜ table ≡ fresh flat n marks ⌝ }
-    ensures { λ r. ⌜ r ≡ children flat n marks p ⌝ }
+    requires { ⌜ table ≡ fresh (treeOf form span) n marks ⌝ }
+    ensures { λ r. ⌜ r ≡ children (treeOf form span) n marks p ⌝ }
 {
     sets::minus(sets::places(table, p), marks)
 }
@@ -187,12 +240,12 @@ fn crown(mut table: [u8; 64], q: u8, low: u8) -> [u8; 64]
 }
 
 // The table once q is marked: the links that ended at q end at its heir, its parent or, where it had none, the lowest unmarked rank.
-fn relink(n: u8, marks: u64, table: [u8; 64], q: u8, after: u64) -> [u8; 64]
+fn relink(n: u8, form: u8, span: u8, marks: u64, table: [u8; 64], q: u8, after: u64) -> [u8; 64]
     requires { ⌜ n ≤ 64 ⌝ }
     requires { ⌜ q < n ⌝ }
-    requires { ⌜ table ≡ fresh flat n marks ⌝ }
+    requires { ⌜ table ≡ fresh (treeOf form span) n marks ⌝ }
     requires { ⌜ after ≡ add marks q ⌝ }
-    ensures { λ r. ⌜ r ≡ fresh flat n after ⌝ }
+    ensures { λ r. ⌜ r ≡ fresh (treeOf form span) n after ⌝ }
 {
     let up = table[q as usize];
     if up != sets::NONE {
@@ -203,11 +256,11 @@ fn relink(n: u8, marks: u64, table: [u8; 64], q: u8, after: u64) -> [u8; 64]
 }
 
 // Marks q and mends the table: only entries that pointed at q change.
-pub fn mend(n: u8, marks: u64, table: [u8; 64], q: u8) -> Mended
+pub fn mend(n: u8, form: u8, span: u8, marks: u64, table: [u8; 64], q: u8) -> Mended
     requires { ⌜ n ≤ 64 ⌝ }
     requires { ⌜ q < n ⌝ }
-    requires { ⌜ table ≡ fresh flat n marks ⌝ }
-    ensures { λ r. ⌜ r ≡ mended flat n marks q ⌝ }
+    requires { ⌜ table ≡ fresh (treeOf form span) n marks ⌝ }
+    ensures { λ r. ⌜ r ≡ mended (treeOf form span) n marks q ⌝ }
 {
     if sets::member(marks, q) {
         return Mended {
@@ -227,18 +280,27 @@ pub fn mend(n: u8, marks: u64, table: [u8; 64], q: u8) -> Mended
     }
     Mended {
         marks: after,
-        table: relink(n, marks, table, q, after),
+        table: relink(n, form, span, marks, table, q, after),
         moved: Moved::sized(sets::minus(changed, after)),
     }
 }
 
 // Those who moved at the mark of q and report to p now. All who moved have one heir, so it is all of them but p itself, or nobody.
-pub fn gained(n: u8, marks: u64, q: u8, table: [u8; 64], moved: u64, p: u8) -> u64
+pub fn gained(
+    n: u8,
+    form: u8,
+    span: u8,
+    marks: u64,
+    q: u8,
+    table: [u8; 64],
+    moved: u64,
+    p: u8,
+) -> u64
     requires { ⌜ n ≤ 64 ⌝ }
     requires { ⌜ q < n ⌝ }
     requires { ⌜ p < 64 ⌝ }
-    requires { ⌜ table ≡ mended flat n marks q .table ⌝ }
-    requires { ⌜ moved ≡ mended flat n marks q .moved .ranks ⌝ }
+    requires { ⌜ table ≡ mended (treeOf form span) n marks q .table ⌝ }
+    requires { ⌜ moved ≡ mended (treeOf form span) n marks q .moved .ranks ⌝ }
     ensures { λ r. ⌜ r ≡ meet moved (setOf (λ c. eqb (getD table c 0) p) 64) ⌝ }
 {
     if moved == 0 {
@@ -252,11 +314,11 @@ pub fn gained(n: u8, marks: u64, q: u8, table: [u8; 64], moved: u64, p: u8) -> u
 }
 
 // Marks every rank below q, ascending; moved is the union and the sum over the marks.
-pub fn mend_below(n: u8, mut marks: u64, mut table: [u8; 64], q: u8) -> Mended
+pub fn mend_below(n: u8, form: u8, span: u8, mut marks: u64, mut table: [u8; 64], q: u8) -> Mended
     requires { ⌜ n ≤ 64 ⌝ }
     requires { ⌜ q ≤ n ⌝ }
-    requires { ⌜ table ≡ fresh flat n marks ⌝ }
-    ensures { λ r. ⌜ r ≡ mendedBelow flat n marks q ⌝ }
+    requires { ⌜ table ≡ fresh (treeOf form span) n marks ⌝ }
+    ensures { λ r. ⌜ r ≡ mendedBelow (treeOf form span) n marks q ⌝ }
 {
     let mut moved = Moved::nobody();
     let mut k: u8 = 0;
@@ -265,7 +327,7 @@ pub fn mend_below(n: u8, mut marks: u64, mut table: [u8; 64], q: u8) -> Mended
             k += 1;
             continue;
         }
-        let next = mend(n, marks, table, k);
+        let next = mend(n, form, span, marks, table, k);
         let more = next.moved;
         marks = next.marks;
         table = next.table;
@@ -279,11 +341,29 @@ pub fn mend_below(n: u8, mut marks: u64, mut table: [u8; 64], q: u8) -> Mended
     }
 }
 
-// Whether a group size is not 1 to 64.
+// Whether a size, of a group or of a box, is not 1 to 64.
 pub fn wrong_size(n: u32) -> bool
     ensures { λ r. ⌜ r ≡ wrongSize n ⌝ }
 {
     (n == 0) | (64 < n)
+}
+
+// The number that refuses a group size, a form and a box size: 1, 50, 51, or 0 where they are right.
+pub fn misshapen(n: u32, form: u32, span: u32) -> u32
+    ensures { λ r. ⌜ r ≡ misshapen n form span ⌝ }
+{
+    let wrong_box = wrong_size(span);
+    let wrong_form = (NESTED as u32) < form;
+    if wrong_size(n) {
+        return 1;
+    }
+    if wrong_box {
+        return 50;
+    }
+    if wrong_form {
+        return 51;
+    }
+    0
 }
 
 // Whether two tables are the same.
@@ -312,24 +392,21 @@ fn mark_refused(answer: u32, marks: u64, table: [u8; 64]) -> Marked
     }
 }
 
-// Entry point: marks q in a view of n ranks. Refuses with 1, 2 or 4.
-pub fn mark(n: u32, marks: u64, table: [u8; 64], q: u32) -> Marked
-    ensures { λ r. ⌜ r ≡ marked flat n marks table q ⌝ }
+// Marks q in a view whose size, form and box size are right. Refuses with 2 or 4.
+fn mark_view(n: u8, form: u8, span: u8, marks: u64, table: [u8; 64], q: u32) -> Marked
+    requires { ⌜ misshapen n form span ≡ 0 ⌝ }
+    ensures { λ r. ⌜ r ≡ marked n form span marks table q ⌝ }
 {
-    if wrong_size(n) {
-        return mark_refused(1, marks, table);
-    }
-    let size = n as u8;
-    if sets::minus(marks, sets::below(size)) != 0 {
+    if sets::minus(marks, sets::below(n)) != 0 {
         return mark_refused(2, marks, table);
     }
-    if !same(table, fresh(size, marks)) {
+    if !same(table, fresh(n, form, span, marks)) {
         return mark_refused(2, marks, table);
     }
-    if n <= q {
+    if (n as u32) <= q {
         return mark_refused(4, marks, table);
     }
-    let m = mend(size, marks, table, q as u8);
+    let m = mend(n, form, span, marks, table, q as u8);
     let mended = m.table;
     let moved = m.moved;
     Marked {
@@ -340,15 +417,27 @@ pub fn mark(n: u32, marks: u64, table: [u8; 64], q: u32) -> Marked
     }
 }
 
+// Entry point: marks q in a view of n ranks, in a form with a box size. Refuses with 1, 50, 51, 2 or 4.
+pub fn mark(n: u32, form: u32, span: u32, marks: u64, table: [u8; 64], q: u32) -> Marked
+    ensures { λ r. ⌜ r ≡ marked n form span marks table q ⌝ }
+{
+    let number = misshapen(n, form, span);
+    if number != 0 {
+        return mark_refused(number, marks, table);
+    }
+    mark_view(n as u8, form as u8, span as u8, marks, table, q)
+}
+
 // Climbs from an unmarked rank, at most `allowance` links.
-fn climb_from(marks: u64, p: u8, allowance: u32) -> Climbed
+fn climb_from(form: u8, span: u8, marks: u64, p: u8, allowance: u32) -> Climbed
+    requires { ⌜ 0 < span ⌝ }
     requires { ⌜ p < 64 ⌝ }
-    ensures { λ r. ⌜ told r ≡ climbing flat marks p allowance ⌝ }
+    ensures { λ r. ⌜ told r ≡ climbing (treeOf form span) marks p allowance ⌝ }
 {
     let mut at = p;
     let mut links: u32 = 0;
     loop {
-        let up = parent_of(marks, at);
+        let up = parent_of(form, span, marks, at);
         if up == sets::NONE {
             return Climbed::Root(at, links);
         }
@@ -360,12 +449,27 @@ fn climb_from(marks: u64, p: u8, allowance: u32) -> Climbed
     }
 }
 
-// Entry point: the root above a rank. Refuses with 1, 4, 6 or 12; marks at n and above are ignored.
-pub fn climb(n: u32, marks: u64, p: u32, allowance: u32) -> Climbed
-    ensures { λ r. ⌜ told r ≡ climbed flat n marks p allowance ⌝ }
+// A climb that is refused with 1, 50 or 51.
+fn not_climbed(number: u32) -> Climbed
+    requires { ⌜ ((number ≡ 1 → ⊥) → (number ≡ 50 → ⊥) → number ≡ 51) ⌝ }
+    ensures { λ r. ⌜ told r ≡ notClimbed number ⌝ }
 {
-    if wrong_size(n) {
+    if number == 1 {
         return Climbed::WrongSize;
+    }
+    if number == 50 {
+        return Climbed::WrongBox;
+    }
+    Climbed::WrongForm
+}
+
+// Entry point: the root above a rank, in a form with a box size. Refuses with 1, 50, 51, 4, 6 or 12; marks at n and above are ignored.
+pub fn climb(n: u32, form: u32, span: u32, marks: u64, p: u32, allowance: u32) -> Climbed
+    ensures { λ r. ⌜ told r ≡ climbed n form span marks p allowance ⌝ }
+{
+    let number = misshapen(n, form, span);
+    if number != 0 {
+        return not_climbed(number);
     }
     if n <= p {
         return Climbed::WrongRank;
@@ -375,5 +479,5 @@ pub fn climb(n: u32, marks: u64, p: u32, allowance: u32) -> Climbed
     if sets::member(view, from) {
         return Climbed::FromMarked(from);
     }
-    climb_from(view, from, allowance)
+    climb_from(form as u8, span as u8, view, from, allowance)
 }

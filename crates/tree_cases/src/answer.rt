@@ -13,11 +13,11 @@ fn spaced(n: u64) {
     io::print_decimal(STDOUT_FILENO, n);
 }
 
-fn number(numbers: [u64; 67], k: u8) -> u64 {
-    numbers[(k % 67) as usize]
+fn number(numbers: [u64; 69], k: u8) -> u64 {
+    numbers[(k % 69) as usize]
 }
 
-fn small(numbers: [u64; 67], k: u8) -> u32 {
+fn small(numbers: [u64; 69], k: u8) -> u32 {
     (number(numbers, k) % 0x1_0000_0000) as u32
 }
 
@@ -34,32 +34,36 @@ fn climbed(number: u64, rank: u8, links: u32) {
     text(b"\n");
 }
 
-// Document 01's numbers for each answer.
+// The number of each answer, its rank and its links.
 fn told(c: Climbed) {
     match c {
         Climbed::Root(rank, links) => climbed(0, rank, links),
         Climbed::Short(rank, links) => climbed(12, rank, links),
         Climbed::WrongSize => climbed(1, sets::NONE, 0),
+        Climbed::WrongBox => climbed(50, sets::NONE, 0),
+        Climbed::WrongForm => climbed(51, sets::NONE, 0),
         Climbed::WrongRank => climbed(4, sets::NONE, 0),
         Climbed::FromMarked(rank) => climbed(6, rank, 0),
     }
 }
 
-fn climb(numbers: [u64; 67]) {
+fn climb(numbers: [u64; 69]) {
     told(tree::climb(
         small(numbers, 0),
-        number(numbers, 1),
+        small(numbers, 1),
         small(numbers, 2),
-        small(numbers, 3),
+        number(numbers, 3),
+        small(numbers, 4),
+        small(numbers, 5),
     ));
 }
 
-// The table that stands after a mark's first three numbers.
-fn table_of(numbers: [u64; 67]) -> [u8; 64] {
+// The table that stands after a mark's first five numbers.
+fn table_of(numbers: [u64; 69]) -> [u8; 64] {
     let mut table = [0u8; 64];
     let mut p: u8 = 0;
     while p < 64 {
-        table[p as usize] = (number(numbers, p + 3) % 256) as u8;
+        table[p as usize] = (number(numbers, p + 5) % 256) as u8;
         p += 1;
     }
     table
@@ -77,12 +81,14 @@ fn entries(table: [u8; 64]) {
     }
 }
 
-fn mark(numbers: [u64; 67]) -> Marked {
+fn mark(numbers: [u64; 69]) -> Marked {
     tree::mark(
         small(numbers, 0),
-        number(numbers, 1),
-        table_of(numbers),
+        small(numbers, 1),
         small(numbers, 2),
+        number(numbers, 3),
+        table_of(numbers),
+        small(numbers, 4),
     )
 }
 

@@ -1,11 +1,11 @@
 // Cases, byte by byte. A line is a word, of which the first letter counts, and numbers with a space before each:
-//   climb N MARKS RANK ALLOWANCE
-//   mark N MARKS RANK T0 .. T63
-//   who N MARKS RANK T0 .. T63
+//   climb N FORM BOX MARKS RANK ALLOWANCE
+//   mark N FORM BOX MARKS RANK T0 .. T63
+//   who N FORM BOX MARKS RANK T0 .. T63
 
 pub struct Reader {
     pub letter: u8,
-    pub numbers: [u64; 67],
+    pub numbers: [u64; 69],
     pub count: u8,
     pub inside: bool,
     pub last: bool,
@@ -14,7 +14,7 @@ pub struct Reader {
 pub fn begin() -> Reader {
     Reader {
         letter: 0,
-        numbers: [0; 67],
+        numbers: [0; 69],
         count: 0,
         inside: false,
         last: false,
@@ -33,7 +33,7 @@ fn longer(n: u64, b: u8) -> u64 {
 fn digit(before: Reader, b: u8) -> Reader {
     let mut r = before;
     let mut numbers = before.numbers;
-    let at = (before.count % 67) as usize;
+    let at = (before.count % 69) as usize;
     numbers[at] = longer(numbers[at], b);
     r.numbers = numbers;
     r.inside = true;

@@ -2,6 +2,7 @@
 //! other; its main.rt says how.
 
 use crate::batches::Lent;
+use crate::tree::Form;
 
 /// What an answer place holds before a call.
 const MARK: u32 = 4_000_000_000;
@@ -19,6 +20,7 @@ pub struct Call {
 #[derive(Clone, PartialEq, Debug)]
 pub struct Case {
     pub size: u32,
+    pub form: Form,
     pub hand: u32,
     /// The places that are lent for the whole run.
     pub places: usize,
@@ -57,26 +59,27 @@ fn spaced<T: ToString>(numbers: impl IntoIterator<Item = T>) -> String {
 
 impl Case {
     fn text(&self) -> String {
-        let Case { size, hand, places, parts, numbers } = self;
+        let Case { size, form, hand, places, parts, numbers } = self;
         let list = spaced(parts.iter().flat_map(|part| [part.count, part.places]));
         let events: String = numbers.chunks(3).map(|e| spaced(e) + "\n").collect();
-        format!("{size} {hand} {places} {} {}\n{list}\n{events}\n", numbers.len(), parts.len())
+        format!("{size} {} {} {hand} {places} {} {}\n{list}\n{events}\n", form.number, form.span, numbers.len(), parts.len())
     }
 
     fn read(words: &mut impl Iterator<Item = u32>) -> Option<Case> {
-        let (size, hand, places) = (words.next()?, words.next()?, words.next()? as usize);
+        let (size, form) = (words.next()?, Form { number: words.next()?, span: words.next()? });
+        let (hand, places) = (words.next()?, words.next()? as usize);
         let (count, parts) = (words.next()? as usize, words.next()?);
         let part = |_| Some(Call { count: words.next()? as usize, places: words.next()? as usize });
         let parts: Vec<Call> = (0..parts).map(part).collect::<Option<_>>()?;
         let numbers: Vec<u32> = words.take(count).collect();
         let lent = parts.iter().all(|part| part.places <= MOST) && places <= MOST;
         let cut = parts.iter().map(|part| part.count).sum::<usize>() == count;
-        (numbers.len() == count && count <= MOST && lent && cut).then_some(Case { size, hand, places, parts, numbers })
+        (numbers.len() == count && count <= MOST && lent && cut).then_some(Case { size, form, hand, places, parts, numbers })
     }
 
     /// The calls, one after the other, each on the state that the one before left and on fresh places.
     fn run(&self, calls: &[Call]) -> Told {
-        let mut lent = Lent::start(self.size, self.hand);
+        let mut lent = Lent::start(self.size, self.form, self.hand);
         let mut told = Told { answers: Vec::new(), places: Vec::new(), past: 0, state: Vec::new() };
         for Call { count, places } in calls {
             let mut room = [MARK; MOST];
@@ -129,7 +132,7 @@ pub fn answers(cases: &[Case]) -> String {
 mod tests {
     use super::*;
 
-    const TEXT: &str = "3 0 7 6 2\n3 4 3 3\n1 2 7\n2 0 0\n\n1 6 6 6 2\n2 3 4 6\n1 0 7\n3 0 0\n\n";
+    const TEXT: &str = "3 0 1 0 7 6 2\n3 4 3 3\n1 2 7\n2 0 0\n\n1 2 8 6 6 6 2\n2 3 4 6\n1 0 7\n3 0 0\n\n";
 
     #[test]
     fn a_text() {
@@ -137,8 +140,8 @@ mod tests {
         assert_eq!(cases[0].parts, [Call { count: 3, places: 4 }, Call { count: 3, places: 3 }]);
         assert_eq!(cases[1].numbers, [1, 0, 7, 3, 0, 0]);
         assert_eq!(text(&cases), TEXT);
-        assert_eq!(read("3 0 7 6 2 3 4 3 3 1 2 7 2 0"), Err("case 1: not a case".to_string()));
-        assert_eq!(read(&format!("{TEXT}3 0 6 6 1 3 4 1 2 7 2 0 0")), Err("case 3: not a case".to_string()));
+        assert_eq!(read("3 0 1 0 7 6 2 3 4 3 3 1 2 7 2 0"), Err("case 1: not a case".to_string()));
+        assert_eq!(read(&format!("{TEXT}3 0 1 0 6 6 1 3 4 1 2 7 2 0 0")), Err("case 3: not a case".to_string()));
         assert_eq!(read("3 0 x"), Err("not numbers of 32 bits".to_string()));
     }
 

@@ -2,7 +2,7 @@
 
 use crate::group::{Event, Group, Message};
 use crate::rank::{Body, Rank};
-use crate::tree::{children, word};
+use crate::tree::{children, misshapen, word, Form};
 use crate::triple::Triple;
 use crate::views::{fresh, Table, NONE};
 use std::array::from_fn;
@@ -15,10 +15,10 @@ pub struct Lent {
 }
 
 impl Lent {
-    /// A start that is refused leaves a group of nobody.
-    pub fn start(size: u32, hand: u32) -> Lent {
-        let n = if (1..=64).contains(&size) { size } else { 0 };
-        Lent { group: Group::start(n), hand }
+    /// A start that is refused leaves a group of nobody, whose form and box size are 0.
+    pub fn start(size: u32, form: Form, hand: u32) -> Lent {
+        let (n, form) = if misshapen(size, form).is_none() { (size, form) } else { (0, Form { number: 0, span: 0 }) };
+        Lent { group: Group::start(n, form), hand }
     }
 
     /// What every event is refused with: 1 for a wrong size, 2 for a state that is not in order.
@@ -26,7 +26,7 @@ impl Lent {
         match self.hand {
             _ if self.group.n == 0 => Some(1),
             7 => Some(1),
-            1..=6 => Some(2),
+            1..=6 | 8 | 9 => Some(2),
             _ => None,
         }
     }
@@ -65,8 +65,9 @@ impl Lent {
 /// A state as the library has it.
 struct Plain {
     n: u32,
-    dead: u64,
+    form: Form,
     count: u32,
+    dead: u64,
     ranks: [Record; 64],
     net: [[u32; 8]; 128],
     tables: [Table; 64],
@@ -94,8 +95,8 @@ fn three(t: Triple) -> [u32; 5] {
 }
 
 /// Awaited are the children that have not been heard.
-fn record(n: u32, me: u32, r: &Rank) -> Record {
-    let awaited = children(n, &r.marks, me).difference(&r.heard).copied().collect();
+fn record(n: u32, form: Form, me: u32, r: &Rank) -> Record {
+    let awaited = children(n, form, &r.marks, me).difference(&r.heard).copied().collect();
     let [marks, acknowledged, heard, awaited, owed] = [&r.marks, &r.acknowledged, &r.heard, &awaited, &r.owed].map(word);
     Record { phase: r.phase as u32, marks, acknowledged, heard, awaited, owed, triple: r.triple, result: r.result }
 }
@@ -116,11 +117,12 @@ impl Plain {
         let nobody = [if g.n == 0 { 0 } else { NONE }; 64];
         Plain {
             n: g.n,
-            dead: word(&g.dead),
+            form: g.form,
             count: g.net.len() as u32,
-            ranks: from_fn(|me| g.ranks.get(me).map_or(Record::default(), |r| record(g.n, me as u32, r))),
+            dead: word(&g.dead),
+            ranks: from_fn(|me| g.ranks.get(me).map_or(Record::default(), |r| record(g.n, g.form, me as u32, r))),
             net: from_fn(|place| g.net.get(place).map_or([0; 8], message)),
-            tables: from_fn(|me| g.ranks.get(me).map_or(nobody, |r| fresh(g.n, &r.marks))),
+            tables: from_fn(|me| g.ranks.get(me).map_or(nobody, |r| fresh(g.n, g.form, &r.marks))),
         }
     }
 
@@ -133,13 +135,15 @@ impl Plain {
             5 => self.net[127] = [4, 0, 1, 0, 0, 0, 0, 0],
             6 => self.tables[63][63] = 64,
             7 => self.n = 65,
+            8 => self.form.number = 3,
+            9 => self.form.span = 65,
             _ => {}
         }
     }
 
     fn numbers(&self) -> Vec<u32> {
         let [low, high] = halves(self.dead);
-        let mut all = vec![self.n, low, high, self.count];
+        let mut all = vec![self.n, self.form.number, self.form.span, self.count, low, high];
         for r in &self.ranks {
             all.push(r.phase);
             all.extend([r.marks, r.acknowledged, r.heard, r.awaited, r.owed].map(halves).concat());
@@ -154,6 +158,7 @@ impl Plain {
 #[cfg(test)]
 mod tests {
     use super::*;
+    use crate::tree::FLAT;
 
     const EVENTS: [u32; 12] = [1, 2, 7, 1, 1, 6, 2, 0, 0, 257, 0, 0];
 
@@ -165,10 +170,10 @@ mod tests {
 
     #[test]
     fn a_batch() {
-        let mut lent = Lent::start(3, 0);
+        let mut lent = Lent::start(3, FLAT, 0);
         let wanted = vec![0, 1, 0, 0, 0, 0, 0, 1, 0, 3, 0, 0, 9];
         assert_eq!(told(&mut lent, &EVENTS, 13), (0, wanted));
-        let mut parts = Lent::start(3, 0);
+        let mut parts = Lent::start(3, FLAT, 0);
         assert_eq!(told(&mut parts, &EVENTS[..3], 3), (0, vec![0, 1, 0]));
         assert_eq!(told(&mut parts, &[], 1), (0, vec![9]));
         assert_ne!(parts.numbers(), lent.numbers());
@@ -179,7 +184,7 @@ mod tests {
     /// The numbers of messages: an UP carries its sender's triple, an ASK's is all 0, whatever its sender holds.
     #[test]
     fn messages() {
-        let mut group = Group::start(4);
+        let mut group = Group::start(4, FLAT);
         let mut sent = |events: &[(u32, u32, u32)]| {
             for (kind, a, b) in events {
                 assert_eq!(group.event(Event { kind: *kind, a: *a, b: *b }).number, 0);
@@ -194,7 +199,7 @@ mod tests {
     /// A refused call changes nothing, and 40 comes before 41.
     #[test]
     fn refused_calls() {
-        let mut lent = Lent::start(3, 0);
+        let mut lent = Lent::start(3, FLAT, 0);
         let before = lent.numbers();
         assert_eq!(told(&mut lent, &EVENTS[..11], 12), (40, vec![9; 12]));
         assert_eq!(told(&mut lent, &EVENTS[..11], 2), (40, vec![9; 2]));
@@ -205,8 +210,8 @@ mod tests {
     /// Every event is refused, and the state stays.
     #[test]
     fn refused_events() {
-        for (size, hand, number) in [(0, 0, 1), (65, 0, 1), (3, 7, 1), (0, 1, 1), (3, 1, 2), (64, 2, 2), (1, 6, 2)] {
-            let mut lent = Lent::start(size, hand);
+        for (size, hand, number) in [(0, 0, 1), (65, 0, 1), (3, 7, 1), (0, 1, 1), (3, 1, 2), (64, 2, 2), (1, 6, 2), (3, 8, 2), (3, 9, 2)] {
+            let mut lent = Lent::start(size, FLAT, hand);
             let before = lent.numbers();
             assert_eq!(told(&mut lent, &EVENTS, 12), (0, [number, 0, 0].repeat(4)));
             assert_eq!(lent.numbers(), before);
@@ -216,14 +221,14 @@ mod tests {
     /// A change by hand is seen among the numbers, of which a state has as many as its fields.
     #[test]
     fn numbers() {
-        let (start, nobody) = (Lent::start(3, 0).numbers(), Lent::start(0, 0).numbers());
-        assert_eq!(start.len(), 4 + 64 * 21 + 128 * 8 + 64 * 64);
+        let (start, nobody) = (Lent::start(3, FLAT, 0).numbers(), Lent::start(0, FLAT, 0).numbers());
+        assert_eq!(start.len(), 6 + 64 * 21 + 128 * 8 + 64 * 64);
         let first = [0, 0, 0, 0, 0, 0, 0, 2, 0, 0, 0, u32::MAX, 0, 0, 7, 0, 0, 0, 0, 0, 0];
-        assert_eq!((&start[..4], &start[4..25]), (&[3, 0, 0, 0][..], &first[..]));
+        assert_eq!((&start[..6], &start[6..27]), (&[3, 0, 1, 0, 0, 0][..], &first[..]));
         assert!(nobody.iter().all(|x| *x == 0));
-        for hand in 1..=7 {
-            assert_ne!(Lent::start(3, hand).numbers(), start);
-            assert_ne!(Lent::start(0, hand).numbers(), nobody);
+        for hand in 1..=9 {
+            assert_ne!(Lent::start(3, FLAT, hand).numbers(), start);
+            assert_ne!(Lent::start(0, FLAT, hand).numbers(), nobody);
         }
     }
 }

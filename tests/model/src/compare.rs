@@ -1,5 +1,5 @@
 //! The programs beside the model: what is printed of fresh random schedules, a difference made as small as can be; marks and climbs on fresh
-//! random views; who moved, by marks and by events; the views after deaths told in two orders; pictures of fresh random views and damaged
+//! random views; who moved, by marks and by events, in every form; the views after deaths told in two orders; pictures of fresh random views and damaged
 //! texts; and fresh random batches, whole and cut into parts.
 
 use crate::batch_cases;
@@ -9,10 +9,11 @@ use crate::file::{read, write, MOST};
 use crate::news::two_orders;
 use crate::picture_cases;
 use crate::pictures::views;
-use crate::random::{schedule, Random};
+use crate::random::{any_form, run_in, schedule, Random};
 use crate::random_batches;
 use crate::random_views::cases;
-use crate::script::script;
+use crate::script::{script, Script};
+use crate::tree::{misshapen, FLAT};
 use std::io::Write;
 use std::process::{Command, Stdio};
 use std::thread;
@@ -111,27 +112,54 @@ pub fn compare_views(program: &str, seed: u64, count: u64) -> bool {
     true
 }
 
-/// Compares who moved by the events of schedules from the seed on, of those of `count` that are not refused; true when there was no
-/// difference.
-pub fn compare_events(program: &str, seed: u64, count: u64) -> bool {
-    let (mut schedules, mut events, mut twice) = (0, 0, 0);
+/// The script of a random schedule, if it is not refused.
+fn of_schedule(seed: u64) -> Option<Script> {
+    let (n, events) = read(&schedule(&mut Random::new(seed))).ok()?;
+    Some(script(n, FLAT, &events))
+}
+
+/// The script of a random run in a random form; of a wrong form or box size, of a refused start and an event or two.
+fn in_a_form(seed: u64) -> Option<Script> {
+    let random = &mut Random::new(seed);
+    let n = random.size();
+    let form = any_form(random, n);
+    let right = if misshapen(n, form).is_none() { form } else { FLAT };
+    let mut events = run_in(random, right, n);
+    if form != right {
+        events.truncate(2);
+    }
+    Some(script(n, form, &events))
+}
+
+/// Compares who moved by the events of scripts from the seed on, of those of `count` that there are; true when there was no difference.
+fn compare_scripts(program: &str, seed: u64, count: u64, what: &str, make: fn(u64) -> Option<Script>) -> bool {
+    let (mut scripts, mut events, mut twice) = (0, 0, 0);
     for k in seed..seed + count {
-        let Ok((n, all)) = read(&schedule(&mut Random::new(k))) else { continue };
-        let script = script(n, &all);
+        let Some(script) = make(k) else { continue };
         let theirs = answer(program, script.text.as_bytes());
         if script.wanted != theirs {
             let at = first_difference(&script.wanted, &theirs);
             let line = |text: &str| text.lines().nth(at).unwrap_or("nothing").to_string();
             println!("seed {k}, line {}:\nthe model:   {}\nthe program: {}", at + 1, line(&script.wanted), line(&theirs));
-            println!("{schedules} schedules alike, then a difference");
+            println!("{scripts} {what} alike, then a difference");
             return false;
         }
-        schedules += 1;
+        scripts += 1;
         events += script.answers.len();
         twice += script.answers.iter().filter(|a| a.moved.count as usize > a.moved.ranks.len()).count();
     }
-    println!("{events} events of {schedules} schedules, {twice} with a count above the set's size, no difference");
+    println!("{events} events of {scripts} {what}, {twice} with a count above the set's size, no difference");
     true
+}
+
+/// Of random schedules.
+pub fn compare_events(program: &str, seed: u64, count: u64) -> bool {
+    compare_scripts(program, seed, count, "schedules", of_schedule)
+}
+
+/// Of random runs in all forms, with many box sizes.
+pub fn compare_forms(program: &str, seed: u64, count: u64) -> bool {
+    compare_scripts(program, seed, count, "runs in forms", in_a_form)
 }
 
 /// Compares the pictures of schedules from the seed on with every death told in one order and in another, of those of `count` that have two;

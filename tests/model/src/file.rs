@@ -2,6 +2,7 @@
 
 use crate::group::{Event, Group};
 use crate::rank::Phase;
+use crate::tree::FLAT;
 
 pub const MOST: usize = 4096;
 
@@ -50,7 +51,7 @@ pub fn listing(bytes: &[u8]) -> String {
         Err(refusal) => return format!("refused {refusal}\n"),
         Ok(found) => found,
     };
-    let mut group = Group::start(n);
+    let mut group = Group::start(n, FLAT);
     let mut text = format!("agr 1 {n} {}\n", events.len());
     for (place, e) in events.iter().enumerate() {
         let answer = group.event(*e);

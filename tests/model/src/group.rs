@@ -1,7 +1,7 @@
 //! Document 01, "The group and its events" and "Refusal numbers", with kind 6 of request 2026-08.
 
 use crate::rank::{Body, Done, Phase, Rank};
-use crate::tree::{Moved, Set};
+use crate::tree::{Form, Moved, Set};
 
 #[derive(Clone, Copy)]
 pub struct Message {
@@ -13,6 +13,7 @@ pub struct Message {
 #[derive(Clone)]
 pub struct Group {
     pub n: u32,
+    pub form: Form,
     pub dead: Set,
     pub net: Vec<Message>,
     pub ranks: Vec<Rank>,
@@ -35,9 +36,9 @@ pub struct Answer {
 pub const ROOM: usize = 128;
 
 impl Group {
-    pub fn start(n: u32) -> Group {
-        let ranks = (0..n).map(|me| Rank::fresh(n, me)).collect();
-        Group { n, dead: Set::new(), net: Vec::new(), ranks }
+    pub fn start(n: u32, form: Form) -> Group {
+        let ranks = (0..n).map(|me| Rank::fresh(n, form, me)).collect();
+        Group { n, form, dead: Set::new(), net: Vec::new(), ranks }
     }
 
     pub fn lives(&self, r: u32) -> bool {
@@ -126,6 +127,7 @@ impl Group {
 #[cfg(test)]
 mod tests {
     use super::*;
+    use crate::tree::FLAT;
     use crate::triple::Triple;
 
     fn say(g: &mut Group, kind: u32, a: u32, b: u32) -> u32 {
@@ -134,14 +136,14 @@ mod tests {
 
     #[test]
     fn examples_8_and_10() {
-        let mut g = Group::start(1);
+        let mut g = Group::start(1, FLAT);
         assert_eq!(g.event(Event { kind: 1, a: 0, b: 9 }), Answer::default());
         assert_eq!((g.ranks[0].phase, g.ranks[0].result.word), (Phase::Decided, 9));
         assert_eq!(say(&mut g, 3, 0, 0), 9);
         assert_eq!(say(&mut g, 1, 0, 9), 7);
         assert_eq!(say(&mut g, 4, 0, 0), 8);
         assert_eq!(say(&mut g, 2, 0, 0), 5);
-        let mut g = Group::start(2);
+        let mut g = Group::start(2, FLAT);
         assert_eq!(say(&mut g, 1, 1, 9), 0);
         assert_eq!(say(&mut g, 5, 0, 0), 10);
     }
@@ -155,7 +157,7 @@ mod tests {
     /// It sends and moves nothing, and what is acknowledged are the marks at that time.
     #[test]
     fn acknowledging() {
-        let mut g = Group::start(3);
+        let mut g = Group::start(3, FLAT);
         play(&mut g, &[(3, 1, 0), (3, 2, 0), (4, 0, 1)]);
         assert_eq!(g.event(Event { kind: 6, a: 0, b: 0 }), Answer::default());
         play(&mut g, &[(4, 0, 2)]);
@@ -167,7 +169,7 @@ mod tests {
 
     #[test]
     fn refusals_of_kind_6() {
-        let mut g = Group::start(4);
+        let mut g = Group::start(4, FLAT);
         play(&mut g, &[(1, 2, 7), (1, 1, 6), (3, 0, 0), (3, 2, 0)]);
         for (kind, a, b, number) in [
             (0, 3, 0, 3), (7, 3, 0, 3), (6, 3, 1, 3), (6, 4, 1, 3), (6, 0, 1, 3), (6, 1, 1, 3),
@@ -177,7 +179,7 @@ mod tests {
         }
         play(&mut g, &[(1, 3, 7)]);
         assert_eq!((g.ranks[3].phase, say(&mut g, 6, 3, 0)), (Phase::Waiting, 7));
-        let mut g = Group::start(1);
+        let mut g = Group::start(1, FLAT);
         play(&mut g, &[(1, 0, 9)]);
         assert_eq!((g.ranks[0].phase, say(&mut g, 6, 0, 0)), (Phase::Decided, 7));
     }
@@ -185,7 +187,7 @@ mod tests {
     /// A root that is told of a death after it entered: its marks join what it decides and sends, and not what it holds.
     #[test]
     fn a_root_told_late() {
-        let mut g = Group::start(3);
+        let mut g = Group::start(3, FLAT);
         play(&mut g, &[(1, 0, 5), (1, 1, 7), (3, 2, 0), (4, 1, 2), (4, 0, 2), (2, 0, 0)]);
         let verdict = Triple { word: 5, known: 4, acknowledged: 0 };
         assert_eq!((g.ranks[0].triple, g.ranks[0].result), (Triple { known: 0, ..verdict }, verdict));
@@ -198,7 +200,7 @@ mod tests {
     /// Who takes a DOWN takes it as it is, whatever it has marked.
     #[test]
     fn marks_beside_a_down() {
-        let mut g = Group::start(3);
+        let mut g = Group::start(3, FLAT);
         play(&mut g, &[(1, 0, 5), (1, 1, 7), (3, 2, 0), (4, 1, 2), (2, 0, 0), (2, 0, 0)]);
         assert_eq!(g.ranks[1].marks, Set::from([2]));
         assert_eq!(g.ranks[1].result, Triple { word: 5, known: 0, acknowledged: 0 });
@@ -206,7 +208,7 @@ mod tests {
 
     #[test]
     fn example_11() {
-        let mut g = Group::start(64);
+        let mut g = Group::start(64, FLAT);
         for leaf in 32..64 {
             assert_eq!(say(&mut g, 1, leaf, 0), 0);
         }

@@ -1,5 +1,5 @@
 //! A second opinion on schedules, batches, marks, climbs and pictures, written from document 01 and requests 2026-01, 2026-03, 2026-04, 2026-06,
-//! 2026-07 and 2026-08 alone.
+//! 2026-07, 2026-08 and 2026-09 alone.
 //!
 //!     model listing < FILE                     the listing that FILE must have
 //!     model write [EVENTS] > FILE              the schedule that a text describes (events.rs)
@@ -11,6 +11,7 @@
 //!     model answers < CASES                    the lines that must answer them
 //!     model compare-views PROGRAM SEED COUNT   the program's answers beside the model's, and who moved by each mark
 //!     model compare-events PROGRAM SEED COUNT  who moved by each event of random schedules, the program beside the model
+//!     model compare-forms PROGRAM SEED COUNT   the same of random runs in every form, with many box sizes
 //!     model pictures-of < FILE                 the pictures that must be printed of FILE
 //!     model compare-pictures-of PROGRAM SEED COUNT  the same beside the program's, of random schedules
 //!     model compare-orders PROGRAM SEED COUNT  the same of random schedules with every death told after them in one order and in another
@@ -139,6 +140,7 @@ fn main() {
         ["answers"] => print(cases::answers(&said(INPUT, input(), cases::read)).as_bytes()),
         ["compare-views", program, seed, count] => ends(compare::compare_views(program, number(seed), number(count))),
         ["compare-events", program, seed, count] => ends(compare::compare_events(program, number(seed), number(count))),
+        ["compare-forms", program, seed, count] => ends(compare::compare_forms(program, number(seed), number(count))),
         ["pictures-of"] => print(pictures::views(&input()).as_bytes()),
         ["compare-pictures-of", program, seed, count] => {
             ends(compare::compare(program, pictures::views, number(seed), number(count)))
@@ -153,6 +155,7 @@ fn main() {
             2,
             "listing | write [EVENTS] | schedule SEED | data SEED COUNT DIR | compare PROGRAM SEED COUNT | \
              views SEED COUNT | answers | compare-views PROGRAM SEED COUNT | compare-events PROGRAM SEED COUNT | \
+             compare-forms PROGRAM SEED COUNT | \
              pictures-of | compare-pictures-of PROGRAM SEED COUNT | compare-orders PROGRAM SEED COUNT | \
              pictures SEED COUNT DIR | compare-pictures PROGRAM SEED COUNT | batches SEED COUNT | batch-answers | \
              compare-batches PROGRAM SEED COUNT",

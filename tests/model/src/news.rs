@@ -4,6 +4,7 @@
 
 use crate::group::{Event, Group};
 use crate::random::{owed_notices, Random};
+use crate::tree::FLAT;
 
 /// The group after these events, how many moved by them and how many messages were sent, if every one is accepted.
 fn play(group: &Group, events: &[Event]) -> Option<(Group, u32, u32)> {
@@ -36,7 +37,7 @@ fn shuffle(random: &mut Random, events: &mut [Event]) {
 
 /// Two orders, the other with some of the notices twice; None where there is but one, or a notice is refused.
 pub fn two_orders(random: &mut Random, n: u32, events: &[Event]) -> Option<Orders> {
-    let mut group = Group::start(n);
+    let mut group = Group::start(n, FLAT);
     for e in events {
         group.event(*e);
     }
@@ -84,11 +85,11 @@ mod tests {
     /// Whether some accepted schedule of n ranks and that many events has another order that moves, and one that sends,
     /// another number.
     fn differs(n: u32, count: usize, schedule: &mut Vec<Event>) -> (bool, bool) {
-        let Some((group, moved, sent)) = play(&Group::start(n), schedule) else { return (false, false) };
+        let Some((group, moved, sent)) = play(&Group::start(n, FLAT), schedule) else { return (false, false) };
         let (mut moves, mut sends) = (false, false);
         if schedule.len() == count {
             for order in orders(schedule) {
-                if let Some((other, m, s)) = play(&Group::start(n), &order) {
+                if let Some((other, m, s)) = play(&Group::start(n, FLAT), &order) {
                     let same = group.ranks.iter().zip(&other.ranks).all(|(a, b)| a.marks == b.marks);
                     moves |= same && m != moved;
                     sends |= same && s != sent;
@@ -143,8 +144,8 @@ mod tests {
 
     #[test]
     fn no_ask_tells_before_six_events() {
-        assert!((1..=4).all(|n| !asks_tell(&Group::start(n), 5)));
-        assert!(asks_tell(&Group::start(3), 6));
+        assert!((1..=4).all(|n| !asks_tell(&Group::start(n, FLAT), 5)));
+        assert!(asks_tell(&Group::start(3, FLAT), 6));
     }
 
     /// Who of two ranks is told first: each has one piece of news, and rank 2 enters before or after its own.
@@ -153,7 +154,7 @@ mod tests {
         let sent = |first, second| {
             let notice = |a| Event { kind: 4, a, b: 1 };
             let events = [Event { kind: 3, a: 1, b: 0 }, notice(first), Event { kind: 1, a: 2, b: 7 }, notice(second)];
-            play(&Group::start(3), &events).expect("accepted").2
+            play(&Group::start(3, FLAT), &events).expect("accepted").2
         };
         assert_eq!((sent(2, 0), sent(0, 2)), (1, 2));
     }
@@ -162,7 +163,7 @@ mod tests {
     /// but those of 0 and 1, has no room to report to 0, and needs none where it is told of 0 first.
     #[test]
     fn room_for_one_order() {
-        let mut group = Group::start(64);
+        let mut group = Group::start(64, FLAT);
         let mut accepts = |kind, a, b| assert_eq!(group.event(Event { kind, a, b }).number, 0);
         (32..64).for_each(|leaf| accepts(1, leaf, 7));
         for level in [16, 8, 4] {

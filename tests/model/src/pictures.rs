@@ -3,17 +3,17 @@
 
 use crate::file;
 use crate::group::Group;
-use crate::tree::{parent, Set};
+use crate::tree::{parent, Set, FLAT};
 
 /// The digraph of a view of n ranks.
 pub fn picture(n: u32, marks: &Set) -> String {
     let unmarked: Vec<u32> = (0..n).filter(|r| !marks.contains(r)).collect();
     let mut lines = vec![format!("digraph v{n} {{")];
     for r in &unmarked {
-        lines.push(if parent(marks, *r).is_none() { format!("{r} [shape=box];") } else { format!("{r};") });
+        lines.push(if parent(FLAT, marks, *r).is_none() { format!("{r} [shape=box];") } else { format!("{r};") });
     }
     for r in &unmarked {
-        if let Some(above) = parent(marks, *r) {
+        if let Some(above) = parent(FLAT, marks, *r) {
             lines.push(format!("{r} -> {above};"));
         }
     }
@@ -63,8 +63,8 @@ pub fn read(text: &[u8]) -> Option<(u32, Set)> {
         .iter()
         .map(|line| line.split_once(" -> ").and_then(|(from, to)| Some((number(from)?, number(to)?))))
         .collect::<Option<_>>()?;
-    let roots: Vec<u32> = listed.iter().copied().filter(|r| parent(&marks, *r).is_none()).collect();
-    let wanted: Vec<(u32, u32)> = listed.iter().filter_map(|r| parent(&marks, *r).map(|above| (*r, above))).collect();
+    let roots: Vec<u32> = listed.iter().copied().filter(|r| parent(FLAT, &marks, *r).is_none()).collect();
+    let wanted: Vec<(u32, u32)> = listed.iter().filter_map(|r| parent(FLAT, &marks, *r).map(|above| (*r, above))).collect();
     (boxed == roots && links == wanted).then_some((n, marks))
 }
 
@@ -74,7 +74,7 @@ pub fn views(bytes: &[u8]) -> String {
         Err(refusal) => return format!("refused {refusal}\n"),
         Ok(found) => found,
     };
-    let mut group = Group::start(n);
+    let mut group = Group::start(n, FLAT);
     for e in events {
         group.event(e);
     }

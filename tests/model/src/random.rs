@@ -3,6 +3,7 @@
 use crate::file::{write, MOST};
 use crate::group::{Event, Group, ROOM};
 use crate::rank::Phase;
+use crate::tree::{Form, FLAT};
 use std::collections::BTreeSet;
 
 /// A small generator of numbers, so that a seed means the same everywhere.
@@ -127,12 +128,12 @@ fn deaths_first(random: &mut Random, n: u32) -> Vec<Event> {
 }
 
 fn played(random: &mut Random, n: u32, most: usize, manner: &Manner, mess: u32) -> Vec<Event> {
-    continued(random, n, Vec::new(), most, manner, mess)
+    continued(random, n, FLAT, Vec::new(), most, manner, mess)
 }
 
 /// These events, and then so many at most.
-fn continued(random: &mut Random, n: u32, first: Vec<Event>, most: usize, manner: &Manner, mess: u32) -> Vec<Event> {
-    let mut g = Group::start(n);
+fn continued(random: &mut Random, n: u32, form: Form, first: Vec<Event>, most: usize, manner: &Manner, mess: u32) -> Vec<Event> {
+    let mut g = Group::start(n, form);
     let mut events = first;
     for e in &events {
         g.event(*e);
@@ -147,6 +148,45 @@ fn continued(random: &mut Random, n: u32, first: Vec<Event>, most: usize, manner
     events
 }
 
+/// A right form with a right box size: 1, 64, one that divides the group's size or does not, so that the last box is shorter, one larger than it.
+pub fn form(random: &mut Random, n: u32) -> Form {
+    let span = match random.below(6) {
+        0 => 1,
+        1 => 64,
+        2 => random.pick(&[2, 4, 8, 16]).expect("one"),
+        3 => n.clamp(1, 63) + 1 + random.below(64 - n.clamp(1, 63)),
+        _ => 1 + random.below(64),
+    };
+    Form { number: random.below(3), span }
+}
+
+/// Such a form, or now and then a form or a box size that is none.
+pub fn any_form(random: &mut Random, n: u32) -> Form {
+    let mut form = form(random, n);
+    if random.one_in(12) {
+        form.number = random.pick(&[3, 4, 255, 256, 257, 258, u32::MAX]).expect("one");
+    }
+    if random.one_in(12) {
+        form.span = random.pick(&[0, 0, 65, 66, 255, 256, 264, u32::MAX]).expect("one");
+    }
+    form
+}
+
+/// A group's size, and events in a form as they happen.
+pub fn run_in(random: &mut Random, form: Form, n: u32) -> Vec<Event> {
+    let calm = Manner { crash: 60, notice: 6, acknowledge: 8, reorder: random.one_in(2) };
+    let stormy = Manner { crash: 6, notice: 2 + random.below(20), acknowledge: 4, reorder: true };
+    match random.below(4) {
+        0 => {
+            let first = deaths_first(random, n);
+            continued(random, n, form, first, 300, &calm, 0)
+        }
+        1 => continued(random, n, form, Vec::new(), 300, &calm, 0),
+        2 => continued(random, n, form, Vec::new(), 400, &stormy, 0),
+        _ => continued(random, n, form, Vec::new(), 250, &stormy, 4),
+    }
+}
+
 /// As document 01's example 11: the leaves report, level after level dies, and the list fills up.
 fn crowded(random: &mut Random) -> Vec<Event> {
     let mut events: Vec<Event> = (32..64).map(|a| Event { kind: 1, a, b: random.word() }).collect();
@@ -154,7 +194,7 @@ fn crowded(random: &mut Random) -> Vec<Event> {
         events.extend((level..2 * level).map(|a| Event { kind: 3, a, b: 0 }));
         events.extend((32..64).map(|a| Event { kind: 4, a, b: a / (32 / level) }));
     }
-    let mut g = Group::start(64);
+    let mut g = Group::start(64, FLAT);
     for e in &events {
         g.event(*e);
     }
@@ -214,7 +254,7 @@ pub fn schedule(random: &mut Random) -> Vec<u8> {
         0..=13 => played(random, n, 400, &calm, 0),
         14..=19 => {
             let first = deaths_first(random, n);
-            continued(random, n, first, 400, &calm, 0)
+            continued(random, n, FLAT, first, 400, &calm, 0)
         }
         20..=39 => played(random, n, 600, &stormy, 0),
         40..=47 => played(random, n, 300, &stormy, 4),
@@ -246,7 +286,7 @@ mod tests {
         for seed in 0..100 {
             let random = &mut Random::new(seed);
             let manner = any_manner(random);
-            let mut g = Group::start(random.size());
+            let mut g = Group::start(random.size(), FLAT);
             while let Some(e) = likely(random, &g, &manner) {
                 g.event(e);
             }
@@ -266,7 +306,7 @@ mod tests {
 
     impl Watched {
         fn start(n: u32) -> Watched {
-            Watched { g: Group::start(n), proposals: vec![None; n as usize], roots: Vec::new() }
+            Watched { g: Group::start(n, FLAT), proposals: vec![None; n as usize], roots: Vec::new() }
         }
 
         fn decided(&self) -> Vec<bool> {
@@ -326,7 +366,7 @@ mod tests {
         for k in 0..204 {
             let path = format!("{}/../../crates/agr_cases/data/{k:03}.agr", env!("CARGO_MANIFEST_DIR"));
             let Ok((n, events)) = read(&std::fs::read(path).expect("a schedule of the gate")) else { continue };
-            let mut g = Group::start(n);
+            let mut g = Group::start(n, FLAT);
             for e in events {
                 let answer = g.event(e);
                 if e.kind == 6 {

@@ -3,7 +3,8 @@
 use crate::batch_cases::{Call, Case};
 use crate::file::read;
 use crate::group::Event;
-use crate::random::{schedule, Random};
+use crate::random::{any_form, run_in, schedule, Random};
+use crate::tree::{misshapen, Form, FLAT};
 
 /// The most numbers of a run.
 const NUMBERS: usize = 750;
@@ -33,12 +34,24 @@ fn wild(random: &mut Random, e: Event) -> [u32; 3] {
     }
 }
 
-/// A size, and the numbers of a run: a schedule's with wild ones among them. Where the file is refused, a wrong size.
-fn run(random: &mut Random) -> (u32, Vec<u32>) {
-    let (size, events) = read(&schedule(random)).unwrap_or_else(|_| {
-        let size = random.pick(&[0, 65, 66, 70]).expect("one");
-        (size, vec![Event { kind: 1, a: 0, b: 7 }; random.below(40) as usize])
-    });
+/// A size, a form and events: a schedule's, or a run in any form. Where the file or the form is refused, a wrong size or form.
+fn begun(random: &mut Random) -> (u32, Form, Vec<Event>) {
+    let refused = vec![Event { kind: 1, a: 0, b: 7 }; random.below(40) as usize];
+    if random.one_in(2) {
+        let size = random.size();
+        let form = any_form(random, size);
+        let events = if misshapen(size, form).is_none() { run_in(random, form, size) } else { refused };
+        return (size, form, events);
+    }
+    match read(&schedule(random)) {
+        Ok((size, events)) => (size, FLAT, events),
+        Err(_) => (random.pick(&[0, 65, 66, 70]).expect("one"), FLAT, refused),
+    }
+}
+
+/// A size, a form and the numbers of a run, with wild ones among them.
+fn run(random: &mut Random) -> (u32, Form, Vec<u32>) {
+    let (size, form, events) = begun(random);
     let mess = random.pick(&[3, 10, 40]).expect("one");
     let mut numbers = Vec::new();
     for e in events {
@@ -51,7 +64,7 @@ fn run(random: &mut Random) -> (u32, Vec<u32>) {
     if random.one_in(8) {
         numbers.truncate(numbers.len().saturating_sub(1 + random.below(2) as usize));
     }
-    (size, numbers)
+    (size, form, numbers)
 }
 
 /// How many numbers each part takes: none, or whole events; where `uneven` a piece of one more now and then.
@@ -79,13 +92,13 @@ fn places(random: &mut Random, count: usize, short: bool) -> usize {
 
 fn case(seed: u64) -> Case {
     let random = &mut Random::new(seed);
-    let (size, numbers) = run(random);
-    let hand = if random.one_in(6) { 1 + random.below(7) } else { 0 };
+    let (size, form, numbers) = run(random);
+    let hand = if random.one_in(6) { 1 + random.below(9) } else { 0 };
     let (uneven, short) = (random.one_in(4), random.one_in(4));
     let cuts = cuts(random, numbers.len(), uneven);
     let parts = cuts.into_iter().map(|count| Call { count, places: places(random, count, short) }).collect();
     let short = random.one_in(3);
-    Case { size, hand, places: places(random, numbers.len(), short), parts, numbers }
+    Case { size, form, hand, places: places(random, numbers.len(), short), parts, numbers }
 }
 
 pub fn cases(seed: u64, count: u64) -> Vec<Case> {
@@ -115,8 +128,12 @@ mod tests {
 
     fn shows(case: &Case) -> Vec<String> {
         let (whole, split) = (case.whole(), case.split());
-        let right = (1..=64).contains(&case.size);
-        let mut shown = vec![if right { format!("hand {}", case.hand) } else { format!("size {}", case.size) }];
+        let mut shown = vec![match misshapen(case.size, case.form) {
+            None => format!("hand {}", case.hand),
+            Some(1) => format!("size {}", case.size),
+            Some(number) => format!("start {number}"),
+        }];
+        shown.extend((misshapen(case.size, case.form).is_none() && whole.answers[0] == 0 && case.hand == 0).then(|| format!("form {}", case.form.number)));
         shown.push(format!("whole {}", whole.answers[0]));
         shown.extend(case.parts.iter().zip(&split.answers).map(|(call, answer)| call_shows(call, *answer)));
         let events = case.numbers.chunks(3).zip(whole.places.chunks(3)).filter(|_| whole.answers[0] == 0);
@@ -128,17 +145,17 @@ mod tests {
     /// Among the cases that the gate runs, those of tests/renew, is each answer of a call and of an event, and each change by hand.
     #[test]
     fn every_answer_occurs() {
-        let cases = cases(109, 100);
+        let cases = cases(262, 120);
         assert_eq!(text(&cases), gate("stdin"));
         assert_eq!(answers(&cases), gate("stdout"));
         let shown: BTreeSet<String> = cases.iter().flat_map(shows).collect();
         let numbered = |word: &str, to: u32| (1..=to).map(|k| format!("{word} {k}")).collect::<Vec<String>>();
         let others = [
-            "event 0", "hand 0", "kind 6, 0", "kind 6, 1", "kind 6, 2", "kind 6, 3", "kind 6, 4", "kind 6, 6", "kind 6, 7", "part 0",
+            "event 0", "form 0", "form 1", "form 2", "hand 0", "kind 6, 0", "kind 6, 1", "kind 6, 2", "kind 6, 3", "kind 6, 4", "kind 6, 6", "kind 6, 7", "part 0",
             "part 0, of nothing", "part 0, with places to spare", "part 40", "part 40, with too few places", "part 41",
-            "part 41, by one place", "size 0", "size 65", "size 66", "size 70", "whole 0", "whole 40", "whole 41",
+            "part 41, by one place", "size 0", "size 65", "size 66", "size 70", "start 50", "start 51", "whole 0", "whole 40", "whole 41",
         ];
-        let wanted = [numbered("event", 11), numbered("hand", 7), others.map(str::to_string).to_vec()].concat();
+        let wanted = [numbered("event", 11), numbered("hand", 9), others.map(str::to_string).to_vec()].concat();
         assert_eq!(shown, wanted.into_iter().collect());
     }
 

@@ -1,8 +1,8 @@
 //! Random calls of mark and climb from a seed: views of every kind, damaged tables, numbers in and out of bounds.
 
 use crate::cases::Case;
-use crate::random::Random;
-use crate::tree::set;
+use crate::random::{any_form, Random};
+use crate::tree::{set, Form, FLAT};
 use crate::views::{climb, fresh, Table, NONE};
 
 /// A word with the members below n, 64 of them at most.
@@ -98,17 +98,24 @@ fn place(random: &mut Random, n: u32) -> usize {
     place as usize
 }
 
+/// The table of a view; of a form that is none of the three, or of no box size, the flat one.
+fn table_of(n: u32, form: Form, view: u64) -> Table {
+    let form = if form.number > 2 || form.span == 0 { FLAT } else { form };
+    fresh(n, form, &set(view))
+}
+
 /// A table that is nearly the fresh one of the view, or not at all.
-fn damaged(random: &mut Random, n: u32, view: u64, q: u32) -> Table {
-    let mut table = fresh(n, &set(view));
+fn damaged(random: &mut Random, n: u32, form: Form, view: u64, q: u32) -> Table {
+    let mut table = table_of(n, form, view);
     let (here, there) = (place(random, n), place(random, n));
     match random.below(8) {
         0 | 1 => table[here] = byte(random),
         2 => table[here] = table[here].wrapping_add(1),
         3 | 4 => table.swap(here, there),
-        // the table from before a mark, or from after it
-        5 => table = fresh(n, &set(view ^ 1 << (q % 64))),
-        6 => table = fresh(size(random), &set(view)),
+        // the table from before a mark, or from after it; of another size, or of another form
+        5 => table = table_of(n, form, view ^ 1 << (q % 64)),
+        6 if random.one_in(2) => table = table_of(size(random), form, view),
+        6 => table = table_of(n, any_form(random, n), view),
         _ => table = std::array::from_fn(|_| byte(random)),
     }
     table
@@ -116,23 +123,25 @@ fn damaged(random: &mut Random, n: u32, view: u64, q: u32) -> Table {
 
 fn marking(random: &mut Random) -> Case {
     let n = size(random);
+    let form = any_form(random, n);
     let view = view(random, n);
     // the smallest unmarked rank is a root, and moves most
     let ranks = ranks(n, view, random.one_in(8));
     let q = if random.one_in(3) { ranks.first().copied() } else { random.pick(&ranks) };
     let q = number(random, n, q);
-    let table = if random.one_in(4) { damaged(random, n, view, q) } else { fresh(n, &set(view)) };
-    Case::Mark { n, marks: with_outside(random, n, view, 12), q, table }
+    let table = if random.one_in(4) { damaged(random, n, form, view, q) } else { table_of(n, form, view) };
+    Case::Mark { n, form, marks: with_outside(random, n, view, 12), q, table }
 }
 
 fn climbing(random: &mut Random) -> Case {
     let n = size(random);
+    let form = any_form(random, n);
     let view = view(random, n);
     // the largest has the longest way
     let ranks = ranks(n, view, random.one_in(10));
     let p = if random.one_in(3) { ranks.last().copied() } else { random.pick(&ranks) };
     let p = number(random, n, p);
-    let exact = climb(n, &set(view), p, u32::MAX).links;
+    let exact = climb(n, form, &set(view), p, u32::MAX).links;
     let allowance = match random.below(7) {
         0 | 1 => exact.saturating_sub(1),
         2 => exact,
@@ -140,7 +149,7 @@ fn climbing(random: &mut Random) -> Case {
         4 => random.pick(&[u32::MAX, 1 << 31, 256, 64]).expect("one"),
         _ => random.below(9),
     };
-    Case::Climb { n, marks: with_outside(random, n, view, 2), p, allowance }
+    Case::Climb { n, form, marks: with_outside(random, n, view, 2), p, allowance }
 }
 
 /// The case of a seed; two of three are climbs, whose lines are short.
@@ -165,15 +174,23 @@ mod tests {
         std::fs::read_to_string(path).expect("a file of the gate's cases")
     }
 
-    fn climb_shows(n: u32, marks: u64, p: u32, allowance: u32) -> &'static str {
-        let done = climb(n, &set(marks), p, allowance);
+    fn climb_shows(n: u32, form: Form, marks: u64, p: u32, allowance: u32) -> &'static str {
+        let done = climb(n, form, &set(marks), p, allowance);
         match done.number {
             0 if marks & !below(n) != 0 => "climb, marks at n and above",
             0 if done.links == 6 => "climb, six links",
             0 if done.links == 0 => "climb, from the root",
+            0 if form.number == 1 => "climb, star",
+            0 if form.number == 2 => "climb, nested",
             0 => "climb",
             1 if p >= n => "climb 1, no rank either",
+            1 if form.span == 0 || form.span > 64 => "climb 1, before 50",
             1 => "climb 1",
+            50 if form.number > 2 => "climb 50, before 51",
+            50 if form.number == 0 => "climb 50, flat",
+            50 => "climb 50",
+            51 if p >= n => "climb 51, no rank either",
+            51 => "climb 51",
             4 if p < 64 && marks >> p & 1 == 1 => "climb 4, marked all the same",
             4 => "climb 4",
             6 if allowance == 0 => "climb 6, no allowance either",
@@ -184,16 +201,21 @@ mod tests {
         }
     }
 
-    fn mark_shows(n: u32, marks: u64, q: u32, table: Table) -> &'static str {
-        let done = mark(n, &set(marks), &table, q);
-        let (outside, wanted) = (marks & !below(n) != 0, fresh(n, &set(marks)));
+    fn mark_shows(n: u32, form: Form, marks: u64, q: u32, table: Table) -> &'static str {
+        let done = mark(n, form, &set(marks), &table, q);
+        let (outside, wanted) = (marks & !below(n) != 0, table_of(n, form, marks));
         match done.number {
             0 if marks >> q & 1 == 1 => "mark, again",
             0 if done.marks.len() as u32 == n => "mark, the last unmarked rank",
             0 if done.moved.count == 0 => "mark, moves none",
             0 if done.moved.count > 6 => "mark, moves many",
+            0 if form.number == 1 => "mark, star",
+            0 if form.number == 2 => "mark, nested",
             0 => "mark",
             1 => "mark 1",
+            50 if form.number > 2 => "mark 50, before 51",
+            50 => "mark 50",
+            51 => "mark 51",
             2 if q >= n => "mark 2, no rank either",
             2 if table == wanted => "mark 2, by marks at n and above",
             2 if outside => "mark 2, by marks and table",
@@ -207,8 +229,8 @@ mod tests {
 
     fn shows(case: Case) -> &'static str {
         match case {
-            Case::Climb { n, marks, p, allowance } => climb_shows(n, marks, p, allowance),
-            Case::Mark { n, marks, q, table } | Case::Who { n, marks, q, table } => mark_shows(n, marks, q, table),
+            Case::Climb { n, form, marks, p, allowance } => climb_shows(n, form, marks, p, allowance),
+            Case::Mark { n, form, marks, q, table } | Case::Who { n, form, marks, q, table } => mark_shows(n, form, marks, q, table),
         }
     }
 
@@ -219,9 +241,12 @@ mod tests {
         assert_eq!(answers(&cases), gate("stdout"));
         let shown: BTreeSet<&str> = cases.into_iter().map(shows).collect();
         let wanted = [
-            "climb", "climb, from the root", "climb, marks at n and above", "climb, six links", "climb 1", "climb 1, no rank either",
+            "climb", "climb, from the root", "climb, marks at n and above", "climb, nested", "climb, six links", "climb, star", "climb 1",
+            "climb 1, before 50", "climb 1, no rank either", "climb 50", "climb 50, before 51", "climb 50, flat", "climb 51",
+            "climb 51, no rank either",
             "climb 4", "climb 4, marked all the same", "climb 6", "climb 6, no allowance either", "climb 12", "climb 12, no link allowed",
-            "mark", "mark, again", "mark, moves many", "mark, moves none", "mark, the last unmarked rank", "mark 1",
+            "mark", "mark, again", "mark, moves many", "mark, moves none", "mark, nested", "mark, star", "mark, the last unmarked rank",
+            "mark 1", "mark 50", "mark 50, before 51", "mark 51",
             "mark 2, by entries at n and above", "mark 2, by entries below n", "mark 2, by marks and table",
             "mark 2, by marks at n and above", "mark 2, by the last entry", "mark 2, no rank either", "mark 4",
         ];

@@ -1,7 +1,7 @@
 //! Document 01, "What a rank holds" and "What a rank does", with request 2026-04, who reports to an undecided rank is owed, and request
 //! 2026-08, a triple stands where a word stood.
 
-use crate::tree::{children, mark_one, parent, word, Moved, Set};
+use crate::tree::{children, mark_one, parent, word, Form, Moved, Set};
 use crate::triple::Triple;
 
 #[derive(Clone, Copy, PartialEq, Debug)]
@@ -22,6 +22,7 @@ pub enum Body {
 #[derive(Clone)]
 pub struct Rank {
     n: u32,
+    form: Form,
     me: u32,
     pub phase: Phase,
     pub marks: Set,
@@ -40,21 +41,21 @@ pub struct Done {
 }
 
 impl Rank {
-    pub fn fresh(n: u32, me: u32) -> Rank {
+    pub fn fresh(n: u32, form: Form, me: u32) -> Rank {
         let [marks, acknowledged, heard, owed] = [const { Set::new() }; 4];
-        Rank { n, me, phase: Phase::Outside, marks, acknowledged, heard, owed, triple: Triple::fresh(n), result: Triple::default() }
+        Rank { n, form, me, phase: Phase::Outside, marks, acknowledged, heard, owed, triple: Triple::fresh(n), result: Triple::default() }
     }
 
     fn parent(&self) -> Option<u32> {
-        parent(&self.marks, self.me)
+        parent(self.form, &self.marks, self.me)
     }
 
     fn children(&self) -> Set {
-        children(self.n, &self.marks, self.me)
+        children(self.n, self.form, &self.marks, self.me)
     }
 
     fn mark(&mut self, q: u32, done: &mut Done) {
-        mark_one(self.n, &mut self.marks, q, &mut done.moved);
+        mark_one(self.n, self.form, &mut self.marks, q, &mut done.moved);
     }
 
     fn decide(&mut self, x: Triple, done: &mut Done) {
@@ -133,7 +134,7 @@ impl Rank {
         if self.marks.contains(&q) {
             return done;
         }
-        let (old_parent, old_children, of_q) = (self.parent(), self.children(), children(self.n, &self.marks, q));
+        let (old_parent, old_children, of_q) = (self.parent(), self.children(), children(self.n, self.form, &self.marks, q));
         self.mark(q, &mut done);
         if self.phase == Phase::Waiting && old_parent == Some(q) {
             match self.parent() {

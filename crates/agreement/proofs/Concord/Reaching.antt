@@ -20,18 +20,18 @@ pub a-move-agrees : (anc : ℕ → ℕ) → Ancestry anc → Chained anc → (n 
 a-move-agrees anc tree chain n small Entry s s′ true′ inv (by-rank p kind q v f g t u) = turn-agrees anc tree chain n small Entry s s′ p kind q v f g t u true′ inv
 a-move-agrees anc tree chain n small Entry s s′ true′ inv (by-loss t) = by-loss-agrees anc n s s′ t inv
 
-module _ (anc : ℕ → ℕ) (n : ℕ) (small : n ≤ 64) where
-  no-verdict : (w : Triple) → Verdict anc n (scene (freshState anc n)) w → ⊥
-  no-verdict w (inl (i, l, e, r)) = omega (arith, all-outside anc n small i (l .0))
-  no-verdict w (inr (b, x, a)) = quiet anc n small _ b x (w, a .0)
+module _ (anc : ℕ → ℕ) (n form span : ℕ) (small : n ≤ 64) where
+  no-verdict : (w : Triple) → Verdict anc n (scene (freshState anc n form span)) w → ⊥
+  no-verdict w (inl (i, l, e, r)) = omega (arith, all-outside anc n form span small i (l .0))
+  no-verdict w (inr (b, x, a)) = quiet anc n form span small _ b x (w, a .0)
 
-  fresh-agrees : Concord anc n (scene (freshState anc n))
+  fresh-agrees : Concord anc n (scene (freshState anc n form span))
   fresh-agrees = record {
-    report-leads = λ x b h. absurd (quiet anc n small _ x b h);
-    heard-leads = λ x b l h. absurd (none-heard anc n small b x l h);
-    owed-tells = λ x b l h. absurd (none-owed anc n small b x l h);
-    down-tells = λ b x h. absurd (quiet anc n small _ b x h);
-    covered-open = λ y x l d c b. (λ e. omega (arith, all-outside anc n small x b), λ o w a. quiet anc n small _ o x (w, a .0));
+    report-leads = λ x b h. absurd (quiet anc n form span small _ x b h);
+    heard-leads = λ x b l h. absurd (none-heard anc n form span small b x l h);
+    owed-tells = λ x b l h. absurd (none-owed anc n form span small b x l h);
+    down-tells = λ b x h. absurd (quiet anc n form span small _ b x h);
+    covered-open = λ y x l d c b. (λ e. omega (arith, all-outside anc n form span small x b), λ o w a. quiet anc n form span small _ o x (w, a .0));
     one-result = λ w w′ h h′. absurd (no-verdict w h);
   }
 

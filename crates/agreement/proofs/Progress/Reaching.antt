@@ -23,15 +23,15 @@ use Rattle.agreement.proofs.Progress.Deciding.{all-decided}
 
 -- ---- a fresh group
 
-module _ (anc : ℕ → ℕ) (n : ℕ) (small : n ≤ 64) where
-  fresh-stands : Progress anc n (scene (freshState anc n))
+module _ (anc : ℕ → ℕ) (n form span : ℕ) (small : n ≤ 64) where
+  fresh-stands : Progress anc n (scene (freshState anc n form span))
   fresh-stands = record {
-    heard-old = λ p q l h. absurd (none-heard anc n small p q l h);
-    report-old = λ q b h. absurd (quiet anc n small _ q b h);
-    waiting-old = λ p l e. absurd (omega (arith, all-outside anc n small p l));
-    new-calm = λ x w. (λ b l e. omega (arith, all-outside anc n small b l), λ b y h. quiet anc n small _ b y h);
-    held = λ x a lx w e la. absurd (omega (arith, all-outside anc n small x (lx .0)));
-    polled = λ a c la e z lc k. absurd (omega (arith, all-outside anc n small a (la .0)));
+    heard-old = λ p q l h. absurd (none-heard anc n form span small p q l h);
+    report-old = λ q b h. absurd (quiet anc n form span small _ q b h);
+    waiting-old = λ p l e. absurd (omega (arith, all-outside anc n form span small p l));
+    new-calm = λ x w. (λ b l e. omega (arith, all-outside anc n form span small b l), λ b y h. quiet anc n form span small _ b y h);
+    held = λ x a lx w e la. absurd (omega (arith, all-outside anc n form span small x (lx .0)));
+    polled = λ a c la e z lc k. absurd (omega (arith, all-outside anc n form span small a (la .0)));
   }
 
 -- ---- every reached state
@@ -52,7 +52,7 @@ nobody-hangs-in-the-flat-tree = nobody-hangs flat flat-ancestry flat-chained
 
 -- The same for whole schedules: where an accepted run ends with nothing in flight, all living ranks in and all deaths known, every living
 -- rank has decided.
-pub no-schedule-hangs : (file out : List ℕ) → run flat file out .answer ≡ 0
-    → Quiet (run flat file out .state) → AllEntered (byteAt file 5) (run flat file out .state) → AllDeathsKnown (byteAt file 5) (run flat file out .state)
-    → AllDecided (byteAt file 5) (run flat file out .state)
-no-schedule-hangs file out z = nobody-hangs-in-the-flat-tree (byteAt file 5) (run flat file out .state) (run-reaches file out z)
+pub no-schedule-hangs : (file out : List ℕ) → run file out .answer ≡ 0
+    → Quiet (run file out .state) → AllEntered (byteAt file 5) (run file out .state) → AllDeathsKnown (byteAt file 5) (run file out .state)
+    → AllDecided (byteAt file 5) (run file out .state)
+no-schedule-hangs file out z = nobody-hangs-in-the-flat-tree (byteAt file 5) (run file out .state) (run-reaches file out z)

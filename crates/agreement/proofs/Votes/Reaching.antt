@@ -61,18 +61,18 @@ a-move-keeps-votes anc tree chain n small Entry s s′ true′ proposals proposa
 
 -- ---- a fresh group
 
-module _ (anc : ℕ → ℕ) (n : ℕ) (small : n ≤ 64) (proposals : ℕ → Triple) where
-  nobody : (p : ℕ) → p < n → (x : ℕ) → Own anc n (scene (freshState anc n)) p x → ⊥
-  nobody p l x (inl h) = h .1 (all-outside anc n small p l)
-  nobody p l x (inr (lx, inl (c, h, k))) = none-heard anc n small p c l h
-  nobody p l x (inr (lx, inr (h, k))) = omega (arith, all-outside anc n small p l)
+module _ (anc : ℕ → ℕ) (n form span : ℕ) (small : n ≤ 64) (proposals : ℕ → Triple) where
+  nobody : (p : ℕ) → p < n → (x : ℕ) → Own anc n (scene (freshState anc n form span)) p x → ⊥
+  nobody p l x (inl h) = h .1 (all-outside anc n form span small p l)
+  nobody p l x (inr (lx, inl (c, h, k))) = none-heard anc n form span small p c l h
+  nobody p l x (inr (lx, inr (h, k))) = omega (arith, all-outside anc n form span small p l)
 
-  fresh-votes : Votes anc n proposals (scene (freshState anc n))
+  fresh-votes : Votes anc n proposals (scene (freshState anc n form span))
   fresh-votes = record {
-    own-triple = λ p l. record { members = 0; entered = λ i h. absurd (clash (has 0 i) h (has-zero i)); contains = λ i h. absurd (nobody p l i h); is-together = all-fresh anc n small p l ∙ sym (together-none n proposals n) };
-    reports = λ q b w h. absurd (quiet anc n small _ q b (w, h));
-    results = λ p l e. absurd (omega (arith, all-outside anc n small p l));
-    answers = λ b x w h. absurd (quiet anc n small _ b x (w, h));
+    own-triple = λ p l. record { members = 0; entered = λ i h. absurd (clash (has 0 i) h (has-zero i)); contains = λ i h. absurd (nobody p l i h); is-together = all-fresh anc n form span small p l ∙ sym (together-none n proposals n) };
+    reports = λ q b w h. absurd (quiet anc n form span small _ q b (w, h));
+    results = λ p l e. absurd (omega (arith, all-outside anc n form span small p l));
+    answers = λ b x w h. absurd (quiet anc n form span small _ b x (w, h));
   }
 
 -- ---- the proposals of a run
@@ -107,14 +107,14 @@ module _ (anc : ℕ → ℕ) (n : ℕ) (s : State) (ev : Event) (run : Reaches a
 
 -- A rank that is not outside has entered in the run.
 pub entered-in-the-run : (anc : ℕ → ℕ) → Ancestry anc → (n : ℕ) (s : State) (run : Reaches anc n s) (i : ℕ) → Entered n (scene s) i → hasEntered anc n s run i ≡ true
-entered-in-the-run anc tree n s (begun z) i e = absurd (e .1 (subst (λ (x : State). rankAt x i .phase ≡ outside) (sym (started-fresh anc n z .1)) (all-outside anc n (reached-small anc n (started anc n .state) (begun z) .1) i (e .0))))
+entered-in-the-run anc tree n s (begun form span z) i e = absurd (e .1 (subst (λ (x : State). rankAt x i .phase ≡ outside) (sym (started-fresh anc n form span z .1)) (all-outside anc n form span (reached-small anc n (started anc n form span .state) (begun form span z) .1) i (e .0))))
 entered-in-the-run anc tree n s (next s′ ev run z) i e =
     entry-counts anc n s′ ev run z i (was-entered anc n (Entry (scene s′) ev) (scene s′) (scene (event anc s′ ev .state)) (reached-moves anc tree n s′ ev run z) i e) (λ h. entered-in-the-run anc tree n s′ run i h)
 
 pub reached-votes : (anc : ℕ → ℕ) → Ancestry anc → Chained anc → (n : ℕ) (s : State) (run : Reaches anc n s) → Votes anc n (proposalOf anc n s run) (scene s)
-reached-votes anc tree chain n s (begun z) =
-    subst (λ (x : State). Votes anc n (proposalOf anc n (started anc n .state) (begun z)) (scene x)) (sym (started-fresh anc n z .1))
-    (fresh-votes anc n (reached-small anc n (started anc n .state) (begun z) .1) (proposalOf anc n (started anc n .state) (begun z)))
+reached-votes anc tree chain n s (begun form span z) =
+    subst (λ (x : State). Votes anc n (proposalOf anc n (started anc n form span .state) (begun form span z)) (scene x)) (sym (started-fresh anc n form span z .1))
+    (fresh-votes anc n form span (reached-small anc n (started anc n form span .state) (begun form span z) .1) (proposalOf anc n (started anc n form span .state) (begun form span z)))
 reached-votes anc tree chain n s (next s′ ev run z) =
     a-move-keeps-votes anc tree chain n (reached-small anc n s′ run .1) (Entry (scene s′) ev) (scene s′) (scene (event anc s′ ev .state)) (reached-truthful anc n (event anc s′ ev .state) (next s′ ev run z))
     (proposalOf anc n s′ run) (proposalOf anc n (event anc s′ ev .state) (next s′ ev run z))

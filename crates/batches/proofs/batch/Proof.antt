@@ -44,8 +44,8 @@ use denote.Triple.Table.{entered, cited}
 use denote.Triple.Walked.{Stays, stay-dropped, gave-slice, stay-ref, walkOf, goes-dropped, goes-gave-slice, goes-ref, Walks, ends-at, walked, walk-meets}
 use denote.Exit.{yes}
 use denote.Signature.{Slot, plain, shrSliceOf}
-use Rattle.tree.specs.Tree.{flat}
 use Rattle.state.specs.declared.State.{State}
+use Rattle.state.specs.States.{ownTree}
 use Rattle.state.proofs.State as T
 use Rattle.state.proofs.State.Laws as T′
 use Rattle.playing.specs.declared.Ran.{Ran}
@@ -77,7 +77,7 @@ Handle 𝓤 H A at-mem run = tripleOf 𝓤 H A handle.signature (handle.spec �
 module _ {M : Type 1} (𝓤 : URA M) (H : Heap 𝓤) (A : Atoms 𝓤) (W : Given 𝓤 H A) (at-mem : Memory → SProp 𝓤) (run : Routine → Fun 𝓤) (κ κ′ κ″ : Lft) (q q′ q″ : Share) (x y : RefT (List ℕ)) (b o : ℕ) (γ : GName) (h : State) where
   -- what the batch comes to
   abbrev ran : Run
-  ran = ran-of flat (x .now) (y .now) h
+  ran = ran-of (ownTree h) (x .now) (y .now) h
 
   abbrev κs : Lfts 3
   κs = (κ, (κ′, (κ″, tt)))

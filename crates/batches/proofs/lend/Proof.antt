@@ -43,8 +43,8 @@ use denote.Triple.Table.{entered, cited}
 use denote.Triple.Walked.{Stays, stay-dropped, gave-slice, walkOf, goes-dropped, goes-gave-slice, Walks, ends-at, walked, walk-meets}
 use denote.Exit.{yes}
 use denote.Signature.{Slot, plain, shrSliceOf}
-use Rattle.tree.specs.Tree.{flat}
 use Rattle.state.specs.declared.State.{State}
+use Rattle.state.specs.States.{ownTree}
 use Rattle.state.proofs.State as T
 use Rattle.state.proofs.State.Laws as T′
 use Rattle.playing.specs.declared.Ran.{Ran}
@@ -79,7 +79,7 @@ Batch 𝓤 H A at-mem run = tripleOf 𝓤 H A batch.signature (batch.spec 𝓤 H
 module _ {M : Type 1} (𝓤 : URA M) (H : Heap 𝓤) (A : Atoms 𝓤) (W : Given 𝓤 H A) (at-mem : Memory → SProp 𝓤) (run : Routine → Fun 𝓤) (κ κ′ : Lft) (q q′ : Share) (x y : RefT (List ℕ)) (h : State) where
   -- what the batch comes to
   abbrev ran : Run
-  ran = ran-of flat (x .now) (y .now) h
+  ran = ran-of (ownTree h) (x .now) (y .now) h
 
   abbrev Arg : Type 0
   Arg = RefT (List ℕ) × (RefT (List ℕ) × (State × Unit {0}))

@@ -1,5 +1,5 @@
 -- The lines of a picture along their code, and the room that they take. Assumes nothing.
-use mathlib.Core.Path.{_≡_, refl, sym, _∙_}
+use mathlib.Core.Path.{_≡_, refl, sym, ap, _∙_}
 use mathlib.Core.Bool.{Bool, true, false, cond, _||_}
 use mathlib.Core.List.{List, [], _∷_, _++_}
 use Prim.Native.Nat.{ℕ, _+_, _≤_}
@@ -9,6 +9,8 @@ use lib.ListN.{length, length-append}
 use borrow.Author.Tests.{eq-eqb, ne-eqb, eqb-true, eqb-false}
 use Rattle.sets.specs.Sets.{none, has}
 use Rattle.tree.specs.Tree.{flat, parent}
+use Rattle.tree.specs.Forms.{treeOf, flatForm}
+use Rattle.tree.proofs.Laws.Forms.{flat-form}
 use Rattle.text.specs.Text.{Wrote, decimal}
 use Rattle.text.proofs.Laws.Writing.{wrote-nothing, wrote-then}
 use Rattle.text.proofs.Laws.Digits.{length-decimal}
@@ -58,23 +60,27 @@ pub node-marked : (text : List ℕ) (at marks p : ℕ) (b : Bool) → b ≡ has 
 unfolding nodeLine
 node-marked text at marks p b e t = rw (sym e ∙ t) (wrote-nothing text at)
 
-pub node-root : (text : List ℕ) (at marks p : ℕ) (b : Bool) (up : ℕ) (t : List ℕ) (a : ℕ) (u : List ℕ) (c : ℕ) → b ≡ has marks p → b ≡ false → up ≡ parent flat marks p → up ≡ none
+-- the code asks for the flat form, with box size 1
+flat-parent : (marks p up : ℕ) → up ≡ parent (treeOf flatForm 1) marks p → up ≡ parent flat marks p
+flat-parent marks p up e = e ∙ ap (λ (anc : ℕ → ℕ). parent anc marks p) (flat-form 1)
+
+pub node-root : (text : List ℕ) (at marks p : ℕ) (b : Bool) (up : ℕ) (t : List ℕ) (a : ℕ) (u : List ℕ) (c : ℕ) → b ≡ has marks p → b ≡ false → up ≡ parent (treeOf flatForm 1) marks p → up ≡ none
     → Wrote text at (decimal p) t a → Wrote t a (32 ∷ 91 ∷ 115 ∷ 104 ∷ 97 ∷ 112 ∷ 101 ∷ 61 ∷ 98 ∷ 111 ∷ 120 ∷ 93 ∷ 59 ∷ 10 ∷ []) u c → Wrote text at (nodeLine marks p) u c
 unfolding nodeLine shape
-node-root text at marks p b up t a u c e f g h v w = rw (sym e ∙ f, eq-eqb (parent flat marks p) none (sym g ∙ h)) (wrote-then v w)
+node-root text at marks p b up t a u c e f g h v w = rw (sym e ∙ f, eq-eqb (parent flat marks p) none (sym (flat-parent marks p up g) ∙ h)) (wrote-then v w)
 
-pub node-plain : (text : List ℕ) (at marks p : ℕ) (b : Bool) (up : ℕ) (t : List ℕ) (a : ℕ) (u : List ℕ) (c : ℕ) → b ≡ has marks p → b ≡ false → up ≡ parent flat marks p → (up ≡ none → ⊥)
+pub node-plain : (text : List ℕ) (at marks p : ℕ) (b : Bool) (up : ℕ) (t : List ℕ) (a : ℕ) (u : List ℕ) (c : ℕ) → b ≡ has marks p → b ≡ false → up ≡ parent (treeOf flatForm 1) marks p → (up ≡ none → ⊥)
     → Wrote text at (decimal p) t a → Wrote t a (59 ∷ 10 ∷ []) u c → Wrote text at (nodeLine marks p) u c
 unfolding nodeLine shape
-node-plain text at marks p b up t a u c e f g h v w = rw (sym e ∙ f, ne-eqb (parent flat marks p) none (λ z. h (g ∙ z))) (wrote-then v w)
+node-plain text at marks p b up t a u c e f g h v w = rw (sym e ∙ f, ne-eqb (parent flat marks p) none (λ z. h (flat-parent marks p up g ∙ z))) (wrote-then v w)
 
-pub edge-none : (text : List ℕ) (at marks p : ℕ) (b : Bool) (up : ℕ) → b ≡ has marks p → up ≡ parent flat marks p → b || eqb up none ≡ true → Wrote text at (edgeLine marks p) text at
+pub edge-none : (text : List ℕ) (at marks p : ℕ) (b : Bool) (up : ℕ) → b ≡ has marks p → up ≡ parent (treeOf flatForm 1) marks p → b || eqb up none ≡ true → Wrote text at (edgeLine marks p) text at
 unfolding edgeLine
-edge-none text at marks p b up e g h = rw (sym e, sym g, h) (wrote-nothing text at)
+edge-none text at marks p b up e g h = rw (sym e, sym (flat-parent marks p up g), h) (wrote-nothing text at)
 
-pub edge-some : (text : List ℕ) (at marks p : ℕ) (b : Bool) (up : ℕ) (t : List ℕ) (a : ℕ) → b ≡ has marks p → up ≡ parent flat marks p → b || eqb up none ≡ false → Wrote text at (edge p up) t a → Wrote text at (edgeLine marks p) t a
+pub edge-some : (text : List ℕ) (at marks p : ℕ) (b : Bool) (up : ℕ) (t : List ℕ) (a : ℕ) → b ≡ has marks p → up ≡ parent (treeOf flatForm 1) marks p → b || eqb up none ≡ false → Wrote text at (edge p up) t a → Wrote text at (edgeLine marks p) t a
 unfolding edgeLine
-edge-some text at marks p b up t a e g h w = rw (sym e, sym g, h) w
+edge-some text at marks p b up t a e g h w = rw (sym e, sym (flat-parent marks p up g), h) w
 
 pub line-edge : (text : List ℕ) (at marks p : ℕ) (b : Bool) (t : List ℕ) (a : ℕ) → b ≡ true → Wrote text at (edgeLine marks p) t a → Wrote text at (cond b (edgeLine marks p) (nodeLine marks p)) t a
 line-edge text at marks p b t a e w = rw e w

@@ -10,7 +10,6 @@ use lib.ListN.{length}
 use borrow.Author.Tests.{eq-eqb, ne-eqb}
 use Rattle.sets.specs.Sets.{has}
 use Rattle.sets.proofs.Laws.Bools.{eq-or-ne}
-use Rattle.tree.specs.Tree.{flat}
 use Rattle.state.specs.declared.State.{State}
 use Rattle.state.specs.States.{rankAt}
 use Rattle.text.specs.Text.{Wrote, lines}
@@ -55,26 +54,26 @@ length-ranks s l =
 
 -- ---- the report along its code
 
-pub drawing-refused : (file out : List ℕ) (a : ℕ) (text t : List ℕ) (next : ℕ) → a ≡ run flat file out .answer → (a ≡ 0 → ⊥) → Wrote text 0 (refusedLine a) t next → Wrote text 0 (drawing file out) t next
+pub drawing-refused : (file out : List ℕ) (a : ℕ) (text t : List ℕ) (next : ℕ) → a ≡ run file out .answer → (a ≡ 0 → ⊥) → Wrote text 0 (refusedLine a) t next → Wrote text 0 (drawing file out) t next
 unfolding drawing drawingOf
 drawing-refused file out a text t next e d w = rw (sym e, ne-eqb a 0 d) w
 
-pub drawing-drawn : (file out : List ℕ) (a : ℕ) (s : State) (text t : List ℕ) (next : ℕ) → a ≡ run flat file out .answer → s ≡ run flat file out .state → a ≡ 0 → Wrote text 0 (rankPictures s) t next → Wrote text 0 (drawing file out) t next
+pub drawing-drawn : (file out : List ℕ) (a : ℕ) (s : State) (text t : List ℕ) (next : ℕ) → a ≡ run file out .answer → s ≡ run file out .state → a ≡ 0 → Wrote text 0 (rankPictures s) t next → Wrote text 0 (drawing file out) t next
 unfolding drawing drawingOf
 drawing-drawn file out a s text t next ea es z w = rw (sym ea ∙ z) (subst (λ (x : State). Wrote text 0 (rankPictures x) t next) es w)
 
 -- A drawing fits the buffer that it asks for.
 drawing-short : (file out : List ℕ) → length (drawing file out) ≤ drawingRoom
 unfolding drawing drawingOf
-drawing-short file out = ⊎-elim accepted refused (eq-or-ne (run flat file out .answer) 0)
+drawing-short file out = ⊎-elim accepted refused (eq-or-ne (run file out .answer) 0)
   where
-    accepted : run flat file out .answer ≡ 0 → length (drawing file out) ≤ drawingRoom
+    accepted : run file out .answer ≡ 0 → length (drawing file out) ≤ drawingRoom
     accepted z =
-        let e = run-ended file out (run flat file out .answer) (run flat file out .state) (run flat file out .answers) refl refl refl z in
-        rw (eq-eqb (run flat file out .answer) 0 z) (length-ranks (run flat file out .state) (e .size))
+        let e = run-ended file out (run file out .answer) (run file out .state) (run file out .answers) refl refl refl z in
+        rw (eq-eqb (run file out .answer) 0 z) (length-ranks (run file out .state) (e .size))
 
-    refused : (run flat file out .answer ≡ 0 → ⊥) → length (drawing file out) ≤ drawingRoom
-    refused d = rw (ne-eqb (run flat file out .answer) 0 d) (let l : length (refusedLine (run flat file out .answer)) ≤ drawingRoom = omega (arith, length-refused (run flat file out .answer)) in l)
+    refused : (run file out .answer ≡ 0 → ⊥) → length (drawing file out) ≤ drawingRoom
+    refused d = rw (ne-eqb (run file out .answer) 0 d) (let l : length (refusedLine (run file out .answer)) ≤ drawingRoom = omega (arith, length-refused (run file out .answer)) in l)
 
 pub drawing-fits : (file out text t : List ℕ) (next : ℕ) → Wrote text 0 (drawing file out) t next → drawingRoom ≤ length text → next ≤ length t
 drawing-fits file out text t next w r = omega (arith, drawing-short file out, w .next-is, wrote-kept w)

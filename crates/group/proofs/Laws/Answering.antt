@@ -36,7 +36,7 @@ module _ (anc : ℕ → ℕ) (s : State) (o : InOrder anc s) (a b : ℕ) (z : ev
 
   pub notice-who : (p : ℕ) → has (event anc s (eventOf 4 a b) .moved .ranks) p ≡ endedAt (s .group .n) b (rankAt (event anc s (eventOf 4 a b) .state) a .marks) (rowAt s a) p
   notice-who p =
-      let small : s .group .n ≤ 64 = in-order-facts anc s o .size-high in
+      let small : s .group .n ≤ 64 = in-order-facts anc s o .shape .small in
       let c : b < s .group .n = notice-about anc s o a b z .2 in
       rw (notice-answers, notice-knows anc s o a b z, table-fresh anc s (s .group .n) a o refl (notice-about anc s o a b z .1))
       (moved-who anc (s .group .n) (rankAt s a .marks) b p small (omega arith))
@@ -56,7 +56,7 @@ module _ (anc : ℕ → ℕ) (s : State) (o : InOrder anc s) (a b : ℕ) (z : ev
   pub ask-who : (p : ℕ) → has (event anc s (eventOf 2 a b) .moved .ranks) p ≡ endedAtSome anc (s .group .n) (rankAt s (placeAt s a .to) .marks) (placeAt s a .from) p
   unfolding endedAtSome tableBelow
   ask-who p =
-      let small : s .group .n ≤ 64 = in-order-facts anc s o .size-high in
+      let small : s .group .n ≤ 64 = in-order-facts anc s o .shape .small in
       let message : MessageInOrder (s .group .n) (s .group .dead) (placeAt s a) = delivered-in-order anc s o (eventOf 2 a b) z refl in
       let inside : placeAt s a .from < s .group .n = message .from-in in
       rw ask-answers (below-who anc (s .group .n) (rankAt s (placeAt s a .to) .marks) (placeAt s a .from) p small (omega arith))

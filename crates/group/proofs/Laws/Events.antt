@@ -5,14 +5,14 @@ use mathlib.Core.Logic.{_⊎_, inl, inr}
 use Prim.Native.Nat.{ℕ, _<_}
 use lib.Dec.{eqb}
 use borrow.Author.Tests.{not-true, not-false}
-use Rattle.sets.proofs.Laws.Bools.{passes-or-fails, cond-true}
-use Rattle.tree.specs.Tree.{flat, nobody}
+use Rattle.sets.proofs.Laws.Bools.{passes-or-fails}
+use Rattle.tree.specs.Tree.{nobody}
 use Rattle.tree.specs.Calls.{wrongSize}
-use Rattle.tree.proofs.Laws.Calls.{size-none, size-pos, size-right}
+use Rattle.tree.proofs.Laws.Calls.{size-none, size-right}
 use Rattle.events.specs.declared.Event.{Event}
 use Rattle.state.specs.declared.State.{State}
 use Rattle.state.specs.Starting.{started}
-use Rattle.state.proofs.Laws.Starting.{started-none}
+use Rattle.state.proofs.Laws.Starting.{started-none, empty-size}
 use Rattle.order.specs.Order.{inOrder}
 use Rattle.order.specs.Between.{Shaped, InOrder}
 use Rattle.order.proofs.Laws.Ordering.{in-order-facts}
@@ -22,30 +22,27 @@ use Rattle.group.proofs.Laws.Stepping.{step-applied}
 
 -- ---- an event on a state handed in
 
-pub size-positive : (n : ℕ) (b : Bool) → b ≡ wrongSize n → b ≡ false → 0 < n
-size-positive n b e f = size-pos n (sym e ∙ f)
-
-pub event-wrong-size : (s : State) (ev : Event) (t : Bool) (r : Stepped) → t ≡ wrongSize (s .group .n) → t ≡ true → r ≡ refused 1 s → r ≡ event flat s ev
+pub event-wrong-size : (anc : ℕ → ℕ) (s : State) (ev : Event) (t : Bool) (r : Stepped) → t ≡ wrongSize (s .group .n) → t ≡ true → r ≡ refused 1 s → r ≡ event anc s ev
 unfolding event
-event-wrong-size s ev t r e f g = g ∙ rw (sym e ∙ f)
+event-wrong-size anc s ev t r e f g = g ∙ rw (sym e ∙ f)
 
-pub event-disordered : (s : State) (ev : Event) (t o : Bool) (r : Stepped) → t ≡ wrongSize (s .group .n) → t ≡ false → o ≡ inOrder flat s → not o ≡ true → r ≡ refused 2 s → r ≡ event flat s ev
+pub event-disordered : (anc : ℕ → ℕ) (s : State) (ev : Event) (t o : Bool) (r : Stepped) → t ≡ wrongSize (s .group .n) → t ≡ false → o ≡ inOrder anc s → not o ≡ true → r ≡ refused 2 s → r ≡ event anc s ev
 unfolding event
-event-disordered s ev t o r e f g h i = i ∙ rw (sym e ∙ f, sym g ∙ not-true o h)
+event-disordered anc s ev t o r e f g h i = i ∙ rw (sym e ∙ f, sym g ∙ not-true o h)
 
-pub event-steps : (s : State) (ev : Event) (t o : Bool) (r : Stepped) → t ≡ wrongSize (s .group .n) → t ≡ false → o ≡ inOrder flat s → not o ≡ false → r ≡ stepped flat s ev → r ≡ event flat s ev
+pub event-steps : (anc : ℕ → ℕ) (s : State) (ev : Event) (t o : Bool) (r : Stepped) → t ≡ wrongSize (s .group .n) → t ≡ false → o ≡ inOrder anc s → not o ≡ false → r ≡ stepped anc s ev → r ≡ event anc s ev
 unfolding event
-event-steps s ev t o r e f g h i = i ∙ rw (sym e ∙ f, sym g ∙ not-false o h)
+event-steps anc s ev t o r e f g h i = i ∙ rw (sym e ∙ f, sym g ∙ not-false o h)
 
-pub in-order-from : (s : State) (o : Bool) → o ≡ inOrder flat s → not o ≡ false → Shaped s → InOrder flat s
-in-order-from s o e h f = record { shaped = f; tested = sym e ∙ not-false o h }
+pub in-order-from : (anc : ℕ → ℕ) (s : State) (o : Bool) → o ≡ inOrder anc s → not o ≡ false → (o ≡ true → Shaped s) → InOrder anc s
+in-order-from anc s o e h f = record { shaped = f (not-false o h); tested = sym e ∙ not-false o h }
 
 -- On a state in order an event is the step.
 pub event-steps-on : (anc : ℕ → ℕ) (s : State) (ev : Event) → InOrder anc s → event anc s ev ≡ stepped anc s ev
 unfolding event
 event-steps-on anc s ev o =
     let f = in-order-facts anc s o in
-    rw (size-right (s .group .n) (f .size-low) (f .size-high), o .tested)
+    rw (size-right (s .group .n) (f .shape .some) (f .shape .small), o .tested)
 
 -- So an accepted event is an accepted step, and carries its plan out.
 pub event-accepted : (anc : ℕ → ℕ) (s : State) (ev : Event) → InOrder anc s → event anc s ev .answer ≡ 0 → stepped anc s ev .answer ≡ 0
@@ -57,9 +54,8 @@ event-applied anc s ev o z = ap (λ (x : Stepped). x .state) (event-steps-on anc
 -- ---- refused events
 
 -- A refused start gives a group of size 0, and so refuses every event with 1.
-pub event-on-none : (anc : ℕ → ℕ) (n : ℕ) (ev : Event) → (started anc n .answer ≡ 0 → ⊥) → event anc (started anc n .state) ev ≡ refused 1 (started anc n .state)
-unfolding event
-event-on-none anc n ev d = cond-true (wrongSize (started anc n .state .group .n)) (refused 1 (started anc n .state)) (cond (inOrder anc (started anc n .state)) (stepped anc (started anc n .state) ev) (refused 2 (started anc n .state))) (ap wrongSize (started-none anc n d) ∙ size-none)
+pub event-on-none : (anc : ℕ → ℕ) (n form span : ℕ) (along : ℕ → ℕ) (ev : Event) → (started anc n form span .answer ≡ 0 → ⊥) → event along (started anc n form span .state) ev ≡ refused 1 (started anc n form span .state)
+event-on-none anc n form span along ev d = sym (event-wrong-size along (started anc n form span .state) ev true _ (sym (ap wrongSize (ap (λ (x : State). x .group .n) (started-none anc n form span d) ∙ empty-size) ∙ size-none)) refl refl)
 
 -- What a refusal is: the number, sent 0, moved 0, and the state.
 pub refused-says : (number : ℕ) (s : State) → refused number s ≡ record { answer = number; sent = 0; moved = nobody; state = s }

@@ -96,12 +96,12 @@ module _ (anc : ℕ → ℕ) (s : State) (f : InOrderFacts anc s) (ev : Event) (
   flies-joins k x t = applied-flies s (ev .a) (subjectOf s ev) p k (subjectOf s ev) x (posted-joins (flying s) (ev .a) (subjectOf s ev) p k x (small t) t)
     where
       small : Says (p .acted .first) (p .acted .second) k x → x < 64
-      small (inl u) = omega (arith, f .size-high, outcome anc s f ev p e z .first-posted .to-in .inside x (u .1))
-      small (inr u) = omega (arith, f .size-high, outcome anc s f ev p e z .second-posted .to-in .inside x (u .1))
+      small (inl u) = omega (arith, f .shape .small, outcome anc s f ev p e z .first-posted .to-in .inside x (u .1))
+      small (inr u) = omega (arith, f .shape .small, outcome anc s f ev p e z .second-posted .to-in .inside x (u .1))
 
   rank-after : rankAt (after s ev p) (subjectOf s ev) ≡ p .acted .rank
   unfolding applied
-  rank-after = getD-set-same (s .group .ranks) (subjectOf s ev) (p .acted .rank) zeroRank (let x = f .shaped .ranks-long in let y = f .size-high in omega (arith, subject-in anc s f ev))
+  rank-after = getD-set-same (s .group .ranks) (subjectOf s ev) (p .acted .rank) zeroRank (let x = f .shaped .ranks-long in let y = f .shape .small in omega (arith, subject-in anc s f ev))
 
   others-after : (j : ℕ) → (j ≡ subjectOf s ev → ⊥) → rankAt (after s ev p) j ≡ rankAt s j
   unfolding applied
@@ -190,8 +190,8 @@ module _ (anc : ℕ → ℕ) (s : State) (f : InOrderFacts anc s) (ev : Event) (
     enters-moves k =
         let t = names-a-rank (ev .kind) (inl k) in
         silent-turn (proposal (ev .b) (rankAt s (subjectOf s ev))) (t .0) (t .1) (λ x. omega arith) _ (act-enters anc (s .group .n) (s .group .dead) ev (placeAt s (ev .a)) (subjectOf s ev) (rankAt s (subjectOf s ev)) (rowAt s (subjectOf s ev)) _ k refl ∙ sym (ok anc s f ev p e z .acted-is))
-        (enter-turn anc tree (s .group .n) (subjectOf s ev) (f .size-high) (subject-in anc s f ev) (ev .b) (rankAt s (subjectOf s ev)) (seat .in-order) (enters-outside k))
-        (enter-speech anc (s .group .n) (subjectOf s ev) (f .size-high) (subject-in anc s f ev) (Entry (scene s) ev (subjectOf s ev) (proposal (ev .b) (rankAt s (subjectOf s ev)))) (k, enters-named k, ap (λ (i : ℕ). proposal (ev .b) (rankAt s i)) (enters-named k)) (ev .b) (rankAt s (subjectOf s ev)) (seat .in-order) (enters-outside k))
+        (enter-turn anc tree (s .group .n) (subjectOf s ev) (f .shape .small) (subject-in anc s f ev) (ev .b) (rankAt s (subjectOf s ev)) (seat .in-order) (enters-outside k))
+        (enter-speech anc (s .group .n) (subjectOf s ev) (f .shape .small) (subject-in anc s f ev) (Entry (scene s) ev (subjectOf s ev) (proposal (ev .b) (rankAt s (subjectOf s ev)))) (k, enters-named k, ap (λ (i : ℕ). proposal (ev .b) (rankAt s i)) (enters-named k)) (ev .b) (rankAt s (subjectOf s ev)) (seat .in-order) (enters-outside k))
 
     notices-moves : ev .kind ≡ 4 → Move anc (s .group .n) (Entry (scene s) ev) (scene s) (scene (after s ev p))
     notices-moves k =
@@ -200,15 +200,15 @@ module _ (anc : ℕ → ℕ) (s : State) (f : InOrderFacts anc s) (ev : Event) (
         let o : ev .b ≡ subjectOf s ev → ⊥ = λ q. clash (has (s .group .dead) (subjectOf s ev)) (subst (λ (x : ℕ). has (s .group .dead) x ≡ true) q d) (named-lives (t .0) (t .1)) in
         let l : ev .b < s .group .n = clean-notice _ _ _ _ _ _ (ok anc s f ev p e z .clean) k in
         silent-turn zeroTriple (t .0) (t .1) (λ x. omega arith) _ (act-notices anc (s .group .n) (s .group .dead) ev (placeAt s (ev .a)) (subjectOf s ev) (rankAt s (subjectOf s ev)) (rowAt s (subjectOf s ev)) _ (λ x. omega arith) (λ x. omega arith) k refl ∙ sym (ok anc s f ev p e z .acted-is))
-        (notice-turn anc tree (s .group .n) (subjectOf s ev) (f .size-high) (subject-in anc s f ev) (ev .b) (rankAt s (subjectOf s ev)) (seat .in-order) l o)
-        (notice-speech anc (s .group .n) (subjectOf s ev) (f .size-high) (subject-in anc s f ev) (Entry (scene s) ev (subjectOf s ev) zeroTriple) zeroTriple (ev .b) (rankAt s (subjectOf s ev)))
+        (notice-turn anc tree (s .group .n) (subjectOf s ev) (f .shape .small) (subject-in anc s f ev) (ev .b) (rankAt s (subjectOf s ev)) (seat .in-order) l o)
+        (notice-speech anc (s .group .n) (subjectOf s ev) (f .shape .small) (subject-in anc s f ev) (Entry (scene s) ev (subjectOf s ev) zeroTriple) zeroTriple (ev .b) (rankAt s (subjectOf s ev)))
 
     acknowledges-moves : ev .kind ≡ 6 → Move anc (s .group .n) (Entry (scene s) ev) (scene s) (scene (after s ev p))
     acknowledges-moves k =
         let t = names-a-rank (ev .kind) (inr (inr (inr k))) in
         silent-turn zeroTriple (t .0) (t .1) (λ x. omega arith) _ (act-acknowledges anc (s .group .n) (s .group .dead) ev (placeAt s (ev .a)) (subjectOf s ev) (rankAt s (subjectOf s ev)) (rowAt s (subjectOf s ev)) _ (λ x. omega arith) (λ x. omega arith) (λ x. omega arith) k refl ∙ sym (ok anc s f ev p e z .acted-is))
-        (acknowledge-turn anc tree (s .group .n) (subjectOf s ev) (f .size-high) (subject-in anc s f ev) (rankAt s (subjectOf s ev)))
-        (acknowledge-speech anc (s .group .n) (subjectOf s ev) (f .size-high) (subject-in anc s f ev) (Entry (scene s) ev (subjectOf s ev) zeroTriple) zeroTriple (rankAt s (subjectOf s ev)))
+        (acknowledge-turn anc tree (s .group .n) (subjectOf s ev) (f .shape .small) (subject-in anc s f ev) (rankAt s (subjectOf s ev)))
+        (acknowledge-speech anc (s .group .n) (subjectOf s ev) (f .shape .small) (subject-in anc s f ev) (Entry (scene s) ev (subjectOf s ev) zeroTriple) zeroTriple (rankAt s (subjectOf s ev)))
 
     -- a crash changes no record, and a message that is lost has a dead end
     rest-by-loss : (ev .kind ≡ 1 → ⊥) → (ev .kind ≡ 2 → ⊥) → (ev .kind ≡ 4 → ⊥) → (ev .kind ≡ 6 → ⊥) → Move anc (s .group .n) (Entry (scene s) ev) (scene s) (scene (after s ev p))
@@ -241,20 +241,20 @@ module _ (anc : ℕ → ℕ) (s : State) (f : InOrderFacts anc s) (ev : Event) (
 
         up-moves : placeAt s (ev .a) .kind ≡ up → takingUp anc (s .group .n) (subjectOf s ev) (placeAt s (ev .a) .from) (placeAt s (ev .a) .triple) (rankAt s (subjectOf s ev)) ≡ p .acted → Move anc (s .group .n) (Entry (scene s) ev) (scene s) (scene (after s ev p))
         up-moves w o = taken-turn up w _ o
-            (up-turn anc tree (s .group .n) (subjectOf s ev) (f .size-high) (subject-in anc s f ev) (placeAt s (ev .a) .from) (placeAt s (ev .a) .triple) (rankAt s (subjectOf s ev)) (seat .in-order))
-            (up-speech anc (s .group .n) (subjectOf s ev) (f .size-high) (subject-in anc s f ev) (Entry (scene s) ev (subjectOf s ev) (placeAt s (ev .a) .triple)) (placeAt s (ev .a) .from) (placeAt s (ev .a) .triple) (rankAt s (subjectOf s ev)) (seat .in-order))
+            (up-turn anc tree (s .group .n) (subjectOf s ev) (f .shape .small) (subject-in anc s f ev) (placeAt s (ev .a) .from) (placeAt s (ev .a) .triple) (rankAt s (subjectOf s ev)) (seat .in-order))
+            (up-speech anc (s .group .n) (subjectOf s ev) (f .shape .small) (subject-in anc s f ev) (Entry (scene s) ev (subjectOf s ev) (placeAt s (ev .a) .triple)) (placeAt s (ev .a) .from) (placeAt s (ev .a) .triple) (rankAt s (subjectOf s ev)) (seat .in-order))
 
         down-moves : placeAt s (ev .a) .kind ≡ down → takingDown anc (s .group .n) (subjectOf s ev) (placeAt s (ev .a) .triple) (rankAt s (subjectOf s ev)) ≡ p .acted → Move anc (s .group .n) (Entry (scene s) ev) (scene s) (scene (after s ev p))
         down-moves w o = taken-turn down w _ o
-            (down-turn anc tree (s .group .n) (subjectOf s ev) (f .size-high) (subject-in anc s f ev) (placeAt s (ev .a) .from) (placeAt s (ev .a) .triple) (rankAt s (subjectOf s ev)))
-            (down-speech anc (s .group .n) (subjectOf s ev) (f .size-high) (subject-in anc s f ev) (Entry (scene s) ev (subjectOf s ev) (placeAt s (ev .a) .triple)) (placeAt s (ev .a) .from) (placeAt s (ev .a) .triple) (rankAt s (subjectOf s ev)))
+            (down-turn anc tree (s .group .n) (subjectOf s ev) (f .shape .small) (subject-in anc s f ev) (placeAt s (ev .a) .from) (placeAt s (ev .a) .triple) (rankAt s (subjectOf s ev)))
+            (down-speech anc (s .group .n) (subjectOf s ev) (f .shape .small) (subject-in anc s f ev) (Entry (scene s) ev (subjectOf s ev) (placeAt s (ev .a) .triple)) (placeAt s (ev .a) .from) (placeAt s (ev .a) .triple) (rankAt s (subjectOf s ev)))
 
         ask-moves : placeAt s (ev .a) .kind ≡ ask → takingAsk anc (s .group .n) (subjectOf s ev) (placeAt s (ev .a) .from) (rankAt s (subjectOf s ev)) ≡ p .acted → Move anc (s .group .n) (Entry (scene s) ev) (scene s) (scene (after s ev p))
         ask-moves w o =
-            let l : placeAt s (ev .a) .from < subjectOf s ev = asker-below anc (s .group .n) (s .group .dead) (subjectOf s ev) (f .size-high) (subject-in anc s f ev) (placeAt s (ev .a)) message receiver w (t .lives) in
+            let l : placeAt s (ev .a) .from < subjectOf s ev = asker-below anc (s .group .n) (s .group .dead) (subjectOf s ev) (f .shape .small) (subject-in anc s f ev) (placeAt s (ev .a)) message receiver w (t .lives) in
             taken-turn ask w _ o
-            (ask-turn anc tree (s .group .n) (subjectOf s ev) (f .size-high) (subject-in anc s f ev) (placeAt s (ev .a) .from) (rankAt s (subjectOf s ev)) (seat .in-order) l (t .unmarked))
-            (ask-speech anc (s .group .n) (subjectOf s ev) (f .size-high) (subject-in anc s f ev) (Entry (scene s) ev (subjectOf s ev) (placeAt s (ev .a) .triple)) (placeAt s (ev .a) .from) (placeAt s (ev .a) .triple) (rankAt s (subjectOf s ev)) l)
+            (ask-turn anc tree (s .group .n) (subjectOf s ev) (f .shape .small) (subject-in anc s f ev) (placeAt s (ev .a) .from) (rankAt s (subjectOf s ev)) (seat .in-order) l (t .unmarked))
+            (ask-speech anc (s .group .n) (subjectOf s ev) (f .shape .small) (subject-in anc s f ev) (Entry (scene s) ev (subjectOf s ev) (placeAt s (ev .a) .triple)) (placeAt s (ev .a) .from) (placeAt s (ev .a) .triple) (rankAt s (subjectOf s ev)) l)
 
       delivers-moves : Move anc (s .group .n) (Entry (scene s) ev) (scene s) (scene (after s ev p))
       delivers-moves =

@@ -23,12 +23,12 @@ pub step-acts : (anc : ℕ → ℕ) (s : State) (ev : Event) → InOrderFacts an
 unfolding stepped carried applied
 step-acts anc s ev f z =
     rw (eq-eqb (planOf anc s ev .answer) 0 (step-plan anc s ev z))
-    (getD-set-same (s .group .ranks) (subjectOf s ev) (planOf anc s ev .acted .rank) zeroRank (let x = f .shaped .ranks-long in let y = f .size-high in omega (arith, subject-in anc s f ev))
+    (getD-set-same (s .group .ranks) (subjectOf s ev) (planOf anc s ev .acted .rank) zeroRank (let x = f .shaped .ranks-long in let y = f .shape .small in omega (arith, subject-in anc s f ev))
     ∙ ap (λ (x : Acted). x .rank) (step-taken anc s ev z .acted-is))
 
 pub step-row : (anc : ℕ → ℕ) (s : State) (ev : Event) → InOrderFacts anc s → stepped anc s ev .answer ≡ 0 → rowAt (stepped anc s ev .state) (subjectOf s ev) ≡ actingOn anc s ev .row
 unfolding stepped carried applied
 step-row anc s ev f z =
     rw (eq-eqb (planOf anc s ev .answer) 0 (step-plan anc s ev z))
-    (getD-set-same (s .tables) (subjectOf s ev) (planOf anc s ev .acted .row) [] (let x = f .shaped .rows-long in let y = f .size-high in omega (arith, subject-in anc s f ev))
+    (getD-set-same (s .tables) (subjectOf s ev) (planOf anc s ev .acted .row) [] (let x = f .shaped .rows-long in let y = f .shape .small in omega (arith, subject-in anc s f ev))
     ∙ ap (λ (x : Acted). x .row) (step-taken anc s ev z .acted-is))

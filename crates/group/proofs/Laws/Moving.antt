@@ -55,7 +55,7 @@ table-fresh anc s n i o e l = in-order-facts anc s o .member i (omega arith) .ta
 pub link-free : (anc : ℕ → ℕ) (s : State) (i p k : ℕ) → InOrder anc s → i < s .group .n → p < s .group .n → has (rankAt s i .marks) k ≡ true → getD (rowAt s i) p 0 ≡ k → ⊥
 link-free anc s i p k o l b h e =
     let f = in-order-facts anc s o in
-    let small : s .group .n ≤ 64 = f .size-high in
+    let small : s .group .n ≤ 64 = f .shape .small in
     let c : k < s .group .n = f .member i l .in-order .to-settle .marks-in .inside k h in
     table-free anc (s .group .n) (rankAt s i .marks) k p small (omega arith) b h (sym (ap (λ (t : List ℕ). getD t p 0) (table-fresh anc s (s .group .n) i o refl l)) ∙ e)
 
@@ -144,7 +144,7 @@ module _ (anc : ℕ → ℕ) (s : State) (o : InOrder anc s) (a b : ℕ) (z : ev
   -- One newly known death moves exactly the links that ended at the dead rank.
   pub notice-moves : MovesExactly (s .group .n) b (rowAt s a) (rowAt (event anc s (eventOf 4 a b) .state) a)
   notice-moves p l =
-      let small : s .group .n ≤ 64 = in-order-facts anc s o .size-high in
+      let small : s .group .n ≤ 64 = in-order-facts anc s o .shape .small in
       let c : b < s .group .n = notice-about .2 in
       rw (notice-table, table-fresh anc s (s .group .n) a o refl (notice-about .1)) (table-moves-exactly anc (s .group .n) (rankAt s a .marks) b p small (omega arith) l)
 
@@ -192,7 +192,7 @@ module _ (anc : ℕ → ℕ) (s : State) (o : InOrder anc s) (a b : ℕ) (z : ev
         marks = rankAt s (placeAt s a .to) .marks
 
         small : s .group .n ≤ 64
-        small = in-order-facts anc s o .size-high
+        small = in-order-facts anc s o .shape .small
 
         message : MessageInOrder (s .group .n) (s .group .dead) (placeAt s a)
         message = delivered-in-order anc s o (eventOf 2 a b) z refl

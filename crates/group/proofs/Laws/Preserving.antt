@@ -69,7 +69,7 @@ module _ (anc : ℕ → ℕ) (s : State) (f : InOrderFacts anc s) (ev : Event) (
 
   pub outcome : Outcome anc (s .group .n) (s .group .dead) (subjectOf s ev) (p .acted)
   outcome = subst (Outcome anc (s .group .n) (s .group .dead) (subjectOf s ev)) (sym (ok .acted-is))
-      (acting-outcome anc (s .group .n) (s .group .dead) (subjectOf s ev) (f .size-high) own ev (placeAt s (ev .a)) (rankAt s (subjectOf s ev)) (rowAt s (subjectOf s ev)) (f .member (subjectOf s ev) own)
+      (acting-outcome anc (s .group .n) (s .group .dead) (subjectOf s ev) (f .shape .small) own ev (placeAt s (ev .a)) (rankAt s (subjectOf s ev)) (rowAt s (subjectOf s ev)) (f .member (subjectOf s ev) own)
       (clean-outside _ _ _ _ _ _ (ok .clean)) delivery notice)
     where
       delivery : ev .kind ≡ 2 → MessageInOrder (s .group .n) (s .group .dead) (placeAt s (ev .a)) × (placeAt s (ev .a) .to ≡ subjectOf s ev)
@@ -172,8 +172,7 @@ module _ (anc : ℕ → ℕ) (s : State) (f : InOrderFacts anc s) (ev : Event) (
   unfolding applied dead′
   applied-facts = record {
     shaped = record { ranks-long = length-set (s .group .ranks) (subjectOf s ev) (p .acted .rank) ∙ f .shaped .ranks-long; rows-long = length-set (s .tables) (subjectOf s ev) (p .acted .row) ∙ f .shaped .rows-long; net-long = padded-long list posted-fits };
-    size-low = f .size-low;
-    size-high = f .size-high;
+    shape = f .shape;
     lives = still-lives;
     dead-in = dead-within;
     count-le = posted-fits;
@@ -194,7 +193,7 @@ module _ (anc : ℕ → ℕ) (s : State) (f : InOrderFacts anc s) (ev : Event) (
 
       seat : (i : ℕ) → i < s .group .n → (i ≡ subjectOf s ev) ⊎ (i ≡ subjectOf s ev → ⊥) → MemberInOrder anc (s .group .n) dead′ i (getD (set (s .group .ranks) (subjectOf s ev) (p .acted .rank)) i zeroRank) (getD (set (s .tables) (subjectOf s ev) (p .acted .row)) i [])
       seat i l (inl q) =
-          rw (q, getD-set-same (s .group .ranks) (subjectOf s ev) (p .acted .rank) zeroRank (let x = f .shaped .ranks-long in let y = f .size-high in omega (arith, own′)), getD-set-same (s .tables) (subjectOf s ev) (p .acted .row) [] (let x = f .shaped .rows-long in let y = f .size-high in omega (arith, own′)))
+          rw (q, getD-set-same (s .group .ranks) (subjectOf s ev) (p .acted .rank) zeroRank (let x = f .shaped .ranks-long in let y = f .shape .small in omega (arith, own′)), getD-set-same (s .tables) (subjectOf s ev) (p .acted .row) [] (let x = f .shaped .rows-long in let y = f .shape .small in omega (arith, own′)))
           (member-more (subjectOf s ev) (p .acted .rank) (p .acted .row) (outcome .seat))
       seat i l (inr q) =
           rw (getD-set-other (s .group .ranks) (subjectOf s ev) i (p .acted .rank) zeroRank q, getD-set-other (s .tables) (subjectOf s ev) i (p .acted .row) [] q)

@@ -2,7 +2,7 @@
 use mathlib.Core.Path.{_≡_, refl, sym, ap, subst, _∙_}
 use Prim.Native.Nat.{ℕ, _≤_, _<_}
 use native.Mathlib.Omega.{arith}
-use Rattle.tree.proofs.Laws.Calls.{size-le, size-pos}
+use Rattle.tree.proofs.Laws.Calls.{shapely}
 use Rattle.rank.proofs.Facts.{MemberInOrder}
 use Rattle.state.specs.declared.State.{State}
 use Rattle.state.specs.States.{rankAt, rowAt}
@@ -16,19 +16,19 @@ use Rattle.group.proofs.Laws.Moving.{event-keeps-order, event-size}
 
 -- The size that a group was started with is 1 to 64.
 pub reached-small : (anc : ℕ → ℕ) (n : ℕ) (s : State) → Reaches anc n s → (0 < n) × (n ≤ 64)
-reached-small anc n s (begun z) = let t = started-fresh anc n z .0 in (size-pos n t, size-le n _ refl t)
+reached-small anc n s (begun form span z) = let t = shapely n form span (started-fresh anc n form span z .0) in (t .some, t .small)
 reached-small anc n s (next s′ ev run z) = reached-small anc n s′ run
 
 -- Every reached state is in order.
 pub reached-in-order : (anc : ℕ → ℕ) (n : ℕ) (s : State) → Reaches anc n s → InOrder anc s
-reached-in-order anc n s (begun z) =
-    let t = reached-small anc n (started anc n .state) (begun z) in
-    subst (InOrder anc) (sym (started-fresh anc n z .1)) (fresh-in-order anc n (t .0) (t .1))
+reached-in-order anc n s (begun form span z) =
+    let t = started-fresh anc n form span z in
+    subst (InOrder anc) (sym (t .1)) (fresh-in-order anc n form span (shapely n form span (t .0)))
 reached-in-order anc n s (next s′ ev run z) = event-keeps-order anc s′ ev (reached-in-order anc n s′ run)
 
 -- Its size is the one that the group was started with.
 pub reached-size : (anc : ℕ → ℕ) (n : ℕ) (s : State) → Reaches anc n s → s .group .n ≡ n
-reached-size anc n s (begun z) = ap (λ (x : State). x .group .n) (started-fresh anc n z .1) ∙ fresh-size anc n
+reached-size anc n s (begun form span z) = ap (λ (x : State). x .group .n) (started-fresh anc n form span z .1) ∙ fresh-size anc n form span
 reached-size anc n s (next s′ ev run z) = event-size anc s′ ev (reached-in-order anc n s′ run) ∙ reached-size anc n s′ run
 
 module _ (anc : ℕ → ℕ) (n : ℕ) (s : State) (run : Reaches anc n s) where

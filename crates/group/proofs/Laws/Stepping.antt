@@ -11,7 +11,7 @@ use lib.ListN.{length, getD, set, take, List·getD-eq-default}
 use borrow.Author.Tests.{eq-eqb, ne-eqb, eqb-true}
 use Rattle.sets.specs.Sets.{has, add, count}
 use Rattle.sets.proofs.Laws.Bools.{passes-or-fails, lt-or-le}
-use Rattle.tree.specs.Tree.{flat, nobody}
+use Rattle.tree.specs.Tree.{nobody}
 use Rattle.rank.specs.declared.Message.{Message}
 use Rattle.net.specs.Net.{inFlight, zeroMessage, padded, placed}
 use Rattle.net.proofs.Laws.Forwarding.{holding-again, forward-fits}
@@ -79,7 +79,7 @@ module _ (anc : ℕ → ℕ) (s : State) (f : InOrderFacts anc s) where
   ends-in i = ⊎-elim (λ (l : i < s .group .count). (f .message i l .from-in, f .message i l .to-in)) (λ (l : s .group .count ≤ i). nobody l (lt-or-le i inFlight)) (lt-or-le i (s .group .count))
     where
       zero-ends : (m : Message) → m ≡ zeroMessage → (m .from < s .group .n) × (m .to < s .group .n)
-      zero-ends m e = rw e (f .size-low, f .size-low)
+      zero-ends m e = rw e (f .shape .some, f .shape .some)
 
       nobody : s .group .count ≤ i → (i < inFlight) ⊎ (inFlight ≤ i) → (placeAt s i .from < s .group .n) × (placeAt s i .to < s .group .n)
       nobody l (inl b) = zero-ends (placeAt s i) (f .vacant i l b)
@@ -87,60 +87,60 @@ module _ (anc : ℕ → ℕ) (s : State) (f : InOrderFacts anc s) where
 
   pub subject-in : (ev : Event) → subjectOf s ev < s .group .n
   unfolding subjectOf
-  subject-in ev = Planning.subject-in (s .group .n) ev (placeAt s (ev .a)) (f .size-low) (ends-in (ev .a) .1)
+  subject-in ev = Planning.subject-in (s .group .n) ev (placeAt s (ev .a)) (f .shape .some) (ends-in (ev .a) .1)
 
-pub subject-below : (s : State) (ev : Event) (m : Message) (me : ℕ) → InOrder flat s → m ≡ getD (s .group .net) (ev .a) zeroMessage → me ≡ subject (s .group .n) ev m → me < 64
+pub subject-below : (anc : ℕ → ℕ) (s : State) (ev : Event) (m : Message) (me : ℕ) → InOrder anc s → m ≡ getD (s .group .net) (ev .a) zeroMessage → me ≡ subject (s .group .n) ev m → me < 64
 unfolding subjectOf
-subject-below s ev m me o e g =
-    let f = in-order-facts flat s o in
-    let l : subjectOf s ev < s .group .n = subject-in flat s f ev in
+subject-below anc s ev m me o e g =
+    let f = in-order-facts anc s o in
+    let l : subjectOf s ev < s .group .n = subject-in anc s f ev in
     let h : me ≡ subjectOf s ev = g ∙ ap (subject (s .group .n) ev) e in
-    omega (arith, f .size-high)
+    omega (arith, f .shape .small)
 
-pub step-ready : (s : State) (ev : Event) (m : Message) (me : ℕ) (t : List (List ℕ)) → InOrder flat s → m ≡ getD (s .group .net) (ev .a) zeroMessage → me ≡ subject (s .group .n) ev m → t ≡ s .tables
-    → FreshSubject flat (s .group .n) m me (getD (s .group .ranks) me zeroRank) (getD t me [])
+pub step-ready : (anc : ℕ → ℕ) (s : State) (ev : Event) (m : Message) (me : ℕ) (t : List (List ℕ)) → InOrder anc s → m ≡ getD (s .group .net) (ev .a) zeroMessage → me ≡ subject (s .group .n) ev m → t ≡ s .tables
+    → FreshSubject anc (s .group .n) m me (getD (s .group .ranks) me zeroRank) (getD t me [])
 unfolding subjectOf
-step-ready s ev m me t o e g h =
-    let f = in-order-facts flat s o in
+step-ready anc s ev m me t o e g h =
+    let f = in-order-facts anc s o in
     let h′ : me ≡ subjectOf s ev = g ∙ ap (subject (s .group .n) ev) e in
-    let l : me < s .group .n = subst (λ (x : ℕ). x < s .group .n) (sym h′) (subject-in flat s f ev) in
+    let l : me < s .group .n = subst (λ (x : ℕ). x < s .group .n) (sym h′) (subject-in anc s f ev) in
     let r = f .member me l in
     record {
-      fresh-row = record { size = f .size-high; own = l; table = ap (λ (x : List (List ℕ)). getD x me []) h ∙ r .table };
+      fresh-row = record { size = f .shape .small; own = l; table = ap (λ (x : List (List ℕ)). getD x me []) h ∙ r .table };
       awaits = r .in-order .to-settle .awaits;
-      sender = subst (λ (x : Message). x .from < s .group .n) (sym e) (ends-in flat s f (ev .a) .0);
+      sender = subst (λ (x : Message). x .from < s .group .n) (sym e) (ends-in anc s f (ev .a) .0);
     }
 
 -- ---- what a state in order gives the list
 
-pub step-held : (s : State) → InOrder flat s → s .group .net ≡ padded (take (s .group .count) (s .group .net))
-step-held s o = places-held flat s (in-order-facts flat s o)
+pub step-held : (anc : ℕ → ℕ) (s : State) → InOrder anc s → s .group .net ≡ padded (take (s .group .count) (s .group .net))
+step-held anc s o = places-held anc s (in-order-facts anc s o)
 
-pub step-count : (s : State) → InOrder flat s → s .group .count ≤ 128
-step-count s o = in-order-facts flat s o .count-le
+pub step-count : (anc : ℕ → ℕ) (s : State) → InOrder anc s → s .group .count ≤ 128
+step-count anc s o = in-order-facts anc s o .count-le
 
 -- ---- what comes of it
 
-pub plan-is : (s : State) (ev : Event) (m : Message) (me : ℕ) (t : List (List ℕ)) (p : Plan) → m ≡ getD (s .group .net) (ev .a) zeroMessage → me ≡ subject (s .group .n) ev m → t ≡ s .tables
-    → p ≡ planned flat (s .group .n) (s .group .dead) (s .group .count) ev m me (getD (s .group .ranks) me zeroRank) (getD t me []) → p ≡ planOf flat s ev
+pub plan-is : (anc : ℕ → ℕ) (s : State) (ev : Event) (m : Message) (me : ℕ) (t : List (List ℕ)) (p : Plan) → m ≡ getD (s .group .net) (ev .a) zeroMessage → me ≡ subject (s .group .n) ev m → t ≡ s .tables
+    → p ≡ planned anc (s .group .n) (s .group .dead) (s .group .count) ev m me (getD (s .group .ranks) me zeroRank) (getD t me []) → p ≡ planOf anc s ev
 unfolding planOf subjectOf
-plan-is s ev m me t p e g h q = q ∙ rw (h, g, e)
+plan-is anc s ev m me t p e g h q = q ∙ rw (h, g, e)
 
 pub me-is : (s : State) (ev : Event) (m : Message) (me : ℕ) → m ≡ getD (s .group .net) (ev .a) zeroMessage → me ≡ subject (s .group .n) ev m → me ≡ subjectOf s ev
 unfolding subjectOf
 me-is s ev m me e g = g ∙ ap (subject (s .group .n) ev) e
 
 -- a plan that is accepted can be carried out
-pub step-carriable : (s : State) (ev : Event) (p : Plan) (me : ℕ) → InOrder flat s → p ≡ planOf flat s ev → p .answer ≡ 0 → me ≡ subjectOf s ev → Carriable s (ev .a) me p
-step-carriable s ev p me o e z g =
-    let f = in-order-facts flat s o in
-    let x = plan-taken flat s ev p e z in
+pub step-carriable : (anc : ℕ → ℕ) (s : State) (ev : Event) (p : Plan) (me : ℕ) → InOrder anc s → p ≡ planOf anc s ev → p .answer ≡ 0 → me ≡ subjectOf s ev → Carriable s (ev .a) me p
+step-carriable anc s ev p me o e z g =
+    let f = in-order-facts anc s o in
+    let x = plan-taken anc s ev p e z in
     record {
-      held = places-held flat s f;
+      held = places-held anc s f;
       count-le = f .count-le;
       there = λ t. clean-place _ _ _ _ _ _ (x .clean) (sym (x .leaves-is) ∙ t);
       room = x .room;
-      own = omega (arith, subject-in flat s f ev, f .size-high);
+      own = omega (arith, subject-in anc s f ev, f .shape .small);
     }
 
 -- a plan that can be carried out has its messages in place, before and after
@@ -157,33 +157,33 @@ carry-posted s place me p m next c h e f g = (
 
 pub carry-applied : (s : State) (place me : ℕ) (p : Plan) (m : List Message) (c : ℕ) (next : List Message) (d : ℕ) (t : List (List ℕ)) (u : State) → t ≡ s .tables → m ≡ s .group .net
     → c ≡ placed (posted (take (s .group .count) m) place me p) .count → next ≡ placed (posted (take (s .group .count) m) place me p) .net → d ≡ cond (p .dies) (add (s .group .dead) me) (s .group .dead)
-    → u ≡ joined (record { n = s .group .n; dead = d; count = c; ranks = set (s .group .ranks) me (p .acted .rank); net = next }) (set t me (p .acted .row))
+    → u ≡ joined (record { n = s .group .n; form = s .group .form; span = s .group .span; count = c; dead = d; ranks = set (s .group .ranks) me (p .acted .rank); net = next }) (set t me (p .acted .row))
     → u ≡ applied s place me p
 unfolding applied
 carry-applied s place me p m c next d t u et em ec en ed eu = eu ∙ rw (ec, en, em, ed, et)
 
-pub step-refuses : (s : State) (ev : Event) (p : Plan) (r : Stepped) → p ≡ planOf flat s ev → (p .answer ≡ 0 → ⊥) → r ≡ refused (p .answer) s → r ≡ stepped flat s ev
+pub step-refuses : (anc : ℕ → ℕ) (s : State) (ev : Event) (p : Plan) (r : Stepped) → p ≡ planOf anc s ev → (p .answer ≡ 0 → ⊥) → r ≡ refused (p .answer) s → r ≡ stepped anc s ev
 unfolding stepped carried
-step-refuses s ev p r e z f = f ∙ rw (← e, ne-eqb (p .answer) 0 z)
+step-refuses anc s ev p r e z f = f ∙ rw (← e, ne-eqb (p .answer) 0 z)
 
-pub step-carries : (s : State) (ev : Event) (p : Plan) (me x y : ℕ) (u : State) → p ≡ planOf flat s ev → p .answer ≡ 0 → me ≡ subjectOf s ev
+pub step-carries : (anc : ℕ → ℕ) (s : State) (ev : Event) (p : Plan) (me x y : ℕ) (u : State) → p ≡ planOf anc s ev → p .answer ≡ 0 → me ≡ subjectOf s ev
     → x ≡ count (has (p .acted .first .to)) 64 → y ≡ count (has (p .acted .second .to)) 64 → u ≡ applied s (ev .a) me p
-    → _≡_ {A = Stepped} (record { answer = 0; sent = x + y; moved = p .acted .moved; state = u }) (stepped flat s ev)
+    → _≡_ {A = Stepped} (record { answer = 0; sent = x + y; moved = p .acted .moved; state = u }) (stepped anc s ev)
 unfolding stepped carried
-step-carries s ev p me x y u e z g ex ey eu = rw (← e, ← g, eq-eqb (p .answer) 0 z, eu, ex, ey)
+step-carries anc s ev p me x y u e z g ex ey eu = rw (← e, ← g, eq-eqb (p .answer) 0 z, eu, ex, ey)
 
 -- ---- the same from the parts of a state
 
-pub step-refused : (s : State) (ev : Event) (m : Message) (me : ℕ) (t : List (List ℕ)) (p : Plan) → m ≡ getD (s .group .net) (ev .a) zeroMessage → me ≡ subject (s .group .n) ev m → t ≡ s .tables
-    → p ≡ planned flat (s .group .n) (s .group .dead) (s .group .count) ev m me (getD (s .group .ranks) me zeroRank) (getD t me []) → (p .answer ≡ 0 → ⊥)
-    → _≡_ {A = Stepped} (record { answer = p .answer; sent = 0; moved = nobody; state = s }) (stepped flat s ev)
+pub step-refused : (anc : ℕ → ℕ) (s : State) (ev : Event) (m : Message) (me : ℕ) (t : List (List ℕ)) (p : Plan) → m ≡ getD (s .group .net) (ev .a) zeroMessage → me ≡ subject (s .group .n) ev m → t ≡ s .tables
+    → p ≡ planned anc (s .group .n) (s .group .dead) (s .group .count) ev m me (getD (s .group .ranks) me zeroRank) (getD t me []) → (p .answer ≡ 0 → ⊥)
+    → _≡_ {A = Stepped} (record { answer = p .answer; sent = 0; moved = nobody; state = s }) (stepped anc s ev)
 unfolding refused
-step-refused s ev m me t p e g h q z = step-refuses s ev p (refused (p .answer) s) (plan-is s ev m me t p e g h q) z refl
+step-refused anc s ev m me t p e g h q z = step-refuses anc s ev p (refused (p .answer) s) (plan-is anc s ev m me t p e g h q) z refl
 
-pub step-accepted : (s : State) (ev : Event) (m : Message) (me : ℕ) (t : List (List ℕ)) (p : Plan) (c : ℕ) (next : List Message) (d x y : ℕ) (u : State) → m ≡ getD (s .group .net) (ev .a) zeroMessage → me ≡ subject (s .group .n) ev m → t ≡ s .tables
-    → p ≡ planned flat (s .group .n) (s .group .dead) (s .group .count) ev m me (getD (s .group .ranks) me zeroRank) (getD t me []) → p .answer ≡ 0
+pub step-accepted : (anc : ℕ → ℕ) (s : State) (ev : Event) (m : Message) (me : ℕ) (t : List (List ℕ)) (p : Plan) (c : ℕ) (next : List Message) (d x y : ℕ) (u : State) → m ≡ getD (s .group .net) (ev .a) zeroMessage → me ≡ subject (s .group .n) ev m → t ≡ s .tables
+    → p ≡ planned anc (s .group .n) (s .group .dead) (s .group .count) ev m me (getD (s .group .ranks) me zeroRank) (getD t me []) → p .answer ≡ 0
     → c ≡ placed (posted (flying s) (ev .a) me p) .count → next ≡ placed (posted (flying s) (ev .a) me p) .net → d ≡ cond (p .dies) (add (s .group .dead) me) (s .group .dead) → x ≡ count (has (p .acted .first .to)) 64 → y ≡ count (has (p .acted .second .to)) 64
-    → u ≡ joined (record { n = s .group .n; dead = d; count = c; ranks = set (s .group .ranks) me (p .acted .rank); net = next }) (set t me (p .acted .row))
-    → _≡_ {A = Stepped} (record { answer = 0; sent = x + y; moved = p .acted .moved; state = u }) (stepped flat s ev)
-step-accepted s ev m me t p c next d x y u em eg et ep z ec en ed ex ey eu =
-    step-carries s ev p me x y u (plan-is s ev m me t p em eg et ep) z (me-is s ev m me em eg) ex ey (carry-applied s (ev .a) me p (s .group .net) c next d t u et refl ec en ed eu)
+    → u ≡ joined (record { n = s .group .n; form = s .group .form; span = s .group .span; count = c; dead = d; ranks = set (s .group .ranks) me (p .acted .rank); net = next }) (set t me (p .acted .row))
+    → _≡_ {A = Stepped} (record { answer = 0; sent = x + y; moved = p .acted .moved; state = u }) (stepped anc s ev)
+step-accepted anc s ev m me t p c next d x y u em eg et ep z ec en ed ex ey eu =
+    step-carries anc s ev p me x y u (plan-is anc s ev m me t p em eg et ep) z (me-is s ev m me em eg) ex ey (carry-applied s (ev .a) me p (s .group .net) c next d t u et refl ec en ed eu)

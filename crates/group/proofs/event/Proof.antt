@@ -1,7 +1,6 @@
 -- `event` meets its contract: at each return the tests on the way pick the definition's case. Assumes nothing.
 use borrow.Author.Needs.{needs}
-use Rattle.tree.proofs.Laws.Calls.{size-le}
-use Rattle.group.proofs.Laws.Events.{size-positive, event-wrong-size, event-disordered, event-steps, in-order-from}
+use Rattle.group.proofs.Laws.Events.{event-wrong-size, event-disordered, event-steps, in-order-from}
 use Rattle.group.proofs.event.Statement.{statement}
 use Rattle.group.proofs.event.Tie as tie
 
@@ -18,7 +17,7 @@ returns : tie.Need-returns
 returns c = search event-wrong-size
 
 in-order-requires : tie.Need-in-order-requires
-in-order-requires c κs = (search size-le, search size-positive)
+in-order-requires c κs = search needs
 
 refused-requires-2 : tie.Need-refused-requires-2
 refused-requires-2 c κs = search needs
@@ -26,15 +25,15 @@ refused-requires-2 c κs = search needs
 returns-2 : tie.Need-returns-2
 returns-2 c =
     let test = c .before .before in
-    event-disordered _ _ _ _ _ (test .before .before .wrong-size .ensures) (test .before .if1 .left) (test .in-order .ensures .0) (c .before .if2 .taken) (c .refused2 .ensures)
+    event-disordered _ _ _ _ _ _ (test .before .before .wrong-size .ensures) (test .before .if1 .left) (test .in-order .ensures .0) (c .before .if2 .taken) (c .refused2 .ensures)
 
 step-requires : tie.Need-step-requires
-step-requires c κs = in-order-from _ _ (c .before .in-order .ensures .0) (c .if2 .left) (c .before .in-order .ensures .1)
+step-requires c κs = in-order-from _ _ _ (c .before .in-order .ensures .0) (c .if2 .left) (c .before .in-order .ensures .1)
 
 returns-3 : tie.Need-returns-3
 returns-3 c =
     let test = c .before .before in
-    event-steps _ _ _ _ _ (test .before .before .wrong-size .ensures) (test .before .if1 .left) (test .in-order .ensures .0) (c .before .if2 .left) (c .step .ensures)
+    event-steps _ _ _ _ _ _ (test .before .before .wrong-size .ensures) (test .before .if1 .left) (test .in-order .ensures .0) (c .before .if2 .left) (c .step .ensures)
 
 pub event-spec : {M : Type 1} → statement M
 event-spec =

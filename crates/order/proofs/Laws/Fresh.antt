@@ -8,39 +8,45 @@ use Rattle.sets.specs.Sets.{has, minus, below}
 use Rattle.sets.proofs.Laws.Bools.{clash}
 use Rattle.sets.proofs.Laws.Members.{has-zero, has-below-lt, minus-i}
 use Rattle.tree.specs.Tree.{fresh}
+use Rattle.tree.proofs.Laws.Calls.{Shapely}
 use Rattle.rank.specs.Records.{freshRank}
 use Rattle.rank.proofs.Laws.Keeping.{fresh-rank-in-order, fresh-marks}
 use Rattle.rank.proofs.Facts.{MemberInOrder}
 use Rattle.state.specs.States.{rankAt, rowAt}
 use Rattle.state.specs.Starting.{freshState}
-use Rattle.state.proofs.Laws.Starting.{fresh-size, fresh-dead, fresh-count, fresh-lengths, fresh-rank-at, fresh-row-at, fresh-past, fresh-place-at}
+use Rattle.state.proofs.Laws.Starting.{fresh-size, fresh-form, fresh-span, fresh-dead, fresh-count, fresh-lengths, fresh-rank-at, fresh-row-at, fresh-past, fresh-place-at}
 use Rattle.order.proofs.Facts.{InOrderFacts}
 use Rattle.order.specs.Between.{InOrder}
 use Rattle.order.proofs.Laws.Ordering.{facts-in-order}
 
-pub fresh-facts : (anc : ℕ → ℕ) (n : ℕ) → 0 < n → n ≤ 64 → InOrderFacts anc (freshState anc n)
-fresh-facts anc n low high = record {
+pub fresh-facts : (anc : ℕ → ℕ) (n form span : ℕ) → Shapely n form span → InOrderFacts anc (freshState anc n form span)
+fresh-facts anc n form span right = record {
   shaped = record { ranks-long = long .0; rows-long = long .1; net-long = long .2 };
-  size-low = rw (fresh-size anc n) low;
-  size-high = rw (fresh-size anc n) high;
-  lives = rw (fresh-size anc n, fresh-dead anc n) (λ e. clash (has (minus (below n) 0) 0) (minus-i (below n) 0 0 (has-below-lt n 0 low) (has-zero 0)) (ap (λ (w : ℕ). has w 0) e ∙ has-zero 0));
-  dead-in = rw (fresh-dead anc n) (λ k h. absurd (clash (has 0 k) h (has-zero k)));
-  count-le = rw (fresh-count anc n) (omega arith);
-  member = rw (fresh-size anc n, fresh-dead anc n) seats;
-  stranger = rw (fresh-size anc n) (fresh-past anc n);
-  message = rw (fresh-count anc n) (λ i l. absurd (omega arith));
-  vacant = λ i l b. fresh-place-at anc n i b;
+  shape = rw (fresh-size anc n form span, fresh-form anc n form span, fresh-span anc n form span) right;
+  lives = rw (fresh-size anc n form span, fresh-dead anc n form span) (λ e. clash (has (minus (below n) 0) 0) (minus-i (below n) 0 0 (has-below-lt n 0 low) (has-zero 0)) (ap (λ (w : ℕ). has w 0) e ∙ has-zero 0));
+  dead-in = rw (fresh-dead anc n form span) (λ k h. absurd (clash (has 0 k) h (has-zero k)));
+  count-le = rw (fresh-count anc n form span) (omega arith);
+  member = rw (fresh-size anc n form span, fresh-dead anc n form span) seats;
+  stranger = rw (fresh-size anc n form span) (fresh-past anc n form span);
+  message = rw (fresh-count anc n form span) (λ i l. absurd (omega arith));
+  vacant = λ i l b. fresh-place-at anc n form span i b;
 }
   where
-    long : (length (freshState anc n .group .ranks) ≡ 64) × (length (freshState anc n .tables) ≡ 64) × (length (freshState anc n .group .net) ≡ 128)
-    long = fresh-lengths anc n
+    low : 0 < n
+    low = right .some
+
+    high : n ≤ 64
+    high = right .small
+
+    long : (length (freshState anc n form span .group .ranks) ≡ 64) × (length (freshState anc n form span .tables) ≡ 64) × (length (freshState anc n form span .group .net) ≡ 128)
+    long = fresh-lengths anc n form span
 
     seat : (i : ℕ) → i < n → MemberInOrder anc n 0 i (freshRank anc n i) (fresh anc n 0)
     seat i l = record { in-order = fresh-rank-in-order anc n i high l; table = sym (ap (fresh anc n) (fresh-marks anc n i)); marks-dead = λ k h. absurd (clash (has 0 k) (subst (λ (w : ℕ). has w k ≡ true) (fresh-marks anc n i) h) (has-zero k)) }
 
-    seats : (i : ℕ) → i < n → MemberInOrder anc n 0 i (rankAt (freshState anc n) i) (rowAt (freshState anc n) i)
-    seats i l = rw (fresh-rank-at anc n i high l, fresh-row-at anc n i high l) (seat i l)
+    seats : (i : ℕ) → i < n → MemberInOrder anc n 0 i (rankAt (freshState anc n form span) i) (rowAt (freshState anc n form span) i)
+    seats i l = rw (fresh-rank-at anc n form span i high l, fresh-row-at anc n form span i high l) (seat i l)
 
 -- A fresh group is in order.
-pub fresh-in-order : (anc : ℕ → ℕ) (n : ℕ) → 0 < n → n ≤ 64 → InOrder anc (freshState anc n)
-fresh-in-order anc n low high = facts-in-order anc (freshState anc n) (fresh-facts anc n low high)
+pub fresh-in-order : (anc : ℕ → ℕ) (n form span : ℕ) → Shapely n form span → InOrder anc (freshState anc n form span)
+fresh-in-order anc n form span right = facts-in-order anc (freshState anc n form span) (fresh-facts anc n form span right)

@@ -13,10 +13,9 @@ use Rattle.sets.specs.Sets.{none, minus, below, every, all}
 use Rattle.sets.proofs.Laws.Bools.{and-assoc, and-true, eq-or-ne, and-i, and-l, and-r, not-i, fails, lt-or-le, cond-true, cond-false, all-head, all-tail, all-nil, all-step, all-cons, means, meant}
 use Rattle.sets.proofs.Laws.Members.{has-below-lt}
 use Rattle.sets.proofs.Laws.Searches.{every-at, every-i, every-not}
-use Rattle.tree.specs.Tree.{flat}
-use Rattle.tree.specs.Calls.{wrongSize, same}
+use Rattle.tree.specs.Calls.{misshapen, same}
 use Rattle.tree.proofs.Laws.Rows.{same-eq, same-refl}
-use Rattle.tree.proofs.Laws.Calls.{size-le, size-pos, size-right}
+use Rattle.tree.proofs.Laws.Calls.{shapely, shape-right}
 use Rattle.rank.specs.declared.Rank.{Rank}
 use Rattle.rank.specs.declared.Message.{Message}
 use Rattle.rank.specs.declared.Triple.{Triple}
@@ -26,7 +25,7 @@ use Rattle.net.specs.Net.{inFlight, zeroMessage, padded}
 use Rattle.net.proofs.Facts.{MessageInOrder}
 use Rattle.net.proofs.Laws.Net.{padded-long, padded-in, padded-past}
 use Rattle.state.specs.declared.State.{State}
-use Rattle.state.specs.States.{zeroRank, rankAt, rowAt, placeAt}
+use Rattle.state.specs.States.{zeroRank, rankAt, rowAt, placeAt, ownTree, withBox}
 use Rattle.order.proofs.Laws.Ranks.{within-o, within-i, below-o, below-i, triple-o, triple-i, zero-o, zero-i, rank-in-order-facts, facts-rank-in-order}
 use Rattle.order.specs.Order.{rankInOrder, isWithin, tripleWithin, isZero, memberInOrder, zeroRecord, strangerInOrder, seatInOrder, seatInOrderAt, messageInOrder, zeroPlace, placeInOrder, placeInOrderAt, inOrder}
 use Rattle.order.specs.Between.{Shaped, InOrder}
@@ -153,15 +152,14 @@ in-order-facts anc s o =
     let t3 = all-tail _ _ t2 in
     let t4 = all-tail _ _ t3 in
     let t5 = all-tail _ _ t4 in
-    let right : wrongSize n ≡ false = not-true (wrongSize n) (all-head _ _ t) in
+    let right = shapely n (s .group .form) (s .group .span) (eqb-true _ 0 (all-head _ _ t)) in
     record {
       shaped = o .shaped;
-      size-low = size-pos n right;
-      size-high = size-le n (wrongSize n) refl right;
+      shape = right;
       lives = eqb-false (minus (below n) (s .group .dead)) 0 (not-true (eqb (minus (below n) (s .group .dead)) 0) (all-head _ _ t1));
       dead-in = λ k h. below-o (s .group .dead) n k (all-head _ _ t2) h;
       count-le = leb-true (s .group .count) inFlight (all-head _ _ t3);
-      member = λ i l. member-o anc n (s .group .dead) i (rankAt s i) (rowAt s i) (rank-member anc s i l (every-at (seatInOrderAt anc s) 64 i (all-head _ _ t4) (let b : n ≤ 64 = size-le n (wrongSize n) refl right in omega arith)));
+      member = λ i l. member-o anc n (s .group .dead) i (rankAt s i) (rowAt s i) (rank-member anc s i l (every-at (seatInOrderAt anc s) 64 i (all-head _ _ t4) (let b : n ≤ 64 = right .small in omega arith)));
       stranger = λ i l b. stranger-o (rankAt s i) (rowAt s i) (rank-stranger anc s i l (every-at (seatInOrderAt anc s) 64 i (all-head _ _ t4) b));
       message = λ i l. message-o n (s .group .dead) (placeAt s i) (place-message s i l (every-at (placeInOrderAt s) inFlight i (all-head _ _ t5) (let b : s .group .count ≤ inFlight = leb-true (s .group .count) inFlight (all-head _ _ t3) in omega arith)));
       vacant = λ i l b. vacant-o (placeAt s i) (place-zero s i l (every-at (placeInOrderAt s) inFlight i (all-head _ _ t5) b));
@@ -172,7 +170,7 @@ unfolding inOrder seatInOrderAt seatInOrder placeInOrderAt placeInOrder
 facts-in-order anc s f = record {
   shaped = f .shaped;
   tested =
-      all-cons _ _ (not-i (wrongSize (s .group .n)) (size-right (s .group .n) (f .size-low) (f .size-high)))
+      all-cons _ _ (eq-eqb _ 0 (shape-right (s .group .n) (s .group .form) (s .group .span) (f .shape)))
       (all-cons _ _ (not-i (eqb (minus (below (s .group .n)) (s .group .dead)) 0) (ne-eqb (minus (below (s .group .n)) (s .group .dead)) 0 (f .lives)))
       (all-cons _ _ (below-i (s .group .dead) (s .group .n) (f .dead-in))
       (all-cons _ _ (le-leb (s .group .count) inFlight (f .count-le))
@@ -181,12 +179,17 @@ facts-in-order anc s f = record {
 }
   where
     rank : (i : ℕ) → i < 64 → (i < s .group .n) ⊎ (s .group .n ≤ i) → seatInOrderAt anc s i ≡ true
-    rank i b (inl l) = cond-true (ltb i (s .group .n)) (memberInOrder anc (s .group .n) (s .group .dead) i (rankAt s i) (rowAt s i)) (strangerInOrder (rankAt s i) (rowAt s i)) (lt-ltb i (s .group .n) l) ∙ member-i anc (s .group .n) (s .group .dead) i (rankAt s i) (rowAt s i) (f .size-high) l (f .member i l)
+    rank i b (inl l) = cond-true (ltb i (s .group .n)) (memberInOrder anc (s .group .n) (s .group .dead) i (rankAt s i) (rowAt s i)) (strangerInOrder (rankAt s i) (rowAt s i)) (lt-ltb i (s .group .n) l) ∙ member-i anc (s .group .n) (s .group .dead) i (rankAt s i) (rowAt s i) (f .shape .small) l (f .member i l)
     rank i b (inr l) = cond-false (ltb i (s .group .n)) (memberInOrder anc (s .group .n) (s .group .dead) i (rankAt s i) (rowAt s i)) (strangerInOrder (rankAt s i) (rowAt s i)) (le-ltb i (s .group .n) l) ∙ stranger-i (rankAt s i) (rowAt s i) (f .stranger i l b .0) (f .stranger i l b .1)
 
     place : (i : ℕ) → i < inFlight → (i < s .group .count) ⊎ (s .group .count ≤ i) → placeInOrderAt s i ≡ true
     place i b (inl l) = cond-true (ltb i (s .group .count)) (messageInOrder (s .group .n) (s .group .dead) (placeAt s i)) (zeroPlace (placeAt s i)) (lt-ltb i (s .group .count) l) ∙ message-i (s .group .n) (s .group .dead) (placeAt s i) (f .message i l)
     place i b (inr l) = cond-false (ltb i (s .group .count)) (messageInOrder (s .group .n) (s .group .dead) (placeAt s i)) (zeroPlace (placeAt s i)) (le-ltb i (s .group .count) l) ∙ vacant-i (placeAt s i) (f .vacant i l b)
+
+-- another box size, where both or neither is right with size and form, changes nothing
+pub in-order-alike : (anc : ℕ → ℕ) (s : State) (y : ℕ) → misshapen (s .group .n) (s .group .form) y ≡ misshapen (s .group .n) (s .group .form) (s .group .span) → inOrder anc (withBox y s) ≡ inOrder anc s
+unfolding inOrder seatInOrderAt placeInOrderAt
+in-order-alike anc s y e = rw e
 
 -- ---- the places hold the list, and zeros after it
 
@@ -276,17 +279,21 @@ every-more f k t h e g j l = ⊎-elim (λ (q : j ≡ k). ap f q ∙ sym e ∙ no
 five : (z a b c d e : Bool) → z ≡ true → a && b && c && d && e ≡ all (z ∷ a ∷ b ∷ c ∷ d ∷ e ∷ [])
 five z a b c d e h = rw h (simp (all-step, all-nil, and-assoc, and-true))
 
-pub in-order-test : (s : State) (u w : ℕ) (q x y : Bool) (t : List (List ℕ)) → 0 < s .group .n → s .group .n ≤ 64 → u ≡ below (s .group .n) → w ≡ minus u (s .group .dead) → q ≡ isWithin (s .group .dead) u → t ≡ s .tables
-    → x ≡ every (λ i. seatInOrder flat (s .group .n) (s .group .dead) i (getD (s .group .ranks) i zeroRank) (getD t i [])) 64
+pub in-order-misshapen : (s : State) (k : ℕ) → k ≡ misshapen (s .group .n) (s .group .form) (s .group .span) → (k ≡ 0 → ⊥) → false ≡ inOrder (ownTree s) s
+unfolding inOrder
+in-order-misshapen s k e d = sym (fails _ (λ t. d (e ∙ eqb-true _ 0 (all-head _ _ t))))
+
+pub in-order-test : (s : State) (u w : ℕ) (q x y : Bool) (t : List (List ℕ)) → misshapen (s .group .n) (s .group .form) (s .group .span) ≡ 0 → u ≡ below (s .group .n) → w ≡ minus u (s .group .dead) → q ≡ isWithin (s .group .dead) u → t ≡ s .tables
+    → x ≡ every (λ i. seatInOrder (ownTree s) (s .group .n) (s .group .dead) i (getD (s .group .ranks) i zeroRank) (getD t i [])) 64
     → y ≡ every (λ i. placeInOrder (s .group .n) (s .group .dead) (s .group .count) i (getD (s .group .net) i zeroMessage)) 128
-    → not (eqb w 0) && q && leb (s .group .count) 128 && x && y ≡ inOrder flat s
+    → not (eqb w 0) && q && leb (s .group .count) 128 && x && y ≡ inOrder (ownTree s) s
 unfolding inOrder seatInOrderAt placeInOrderAt
-in-order-test s u w q x y t a b eu ew eq et ex ey =
+in-order-test s u w q x y t a eu ew eq et ex ey =
     rw (ex, ey, et, eq, ew, eu)
-    (five (not (wrongSize (s .group .n))) (not (eqb (minus (below (s .group .n)) (s .group .dead)) 0)) (isWithin (s .group .dead) (below (s .group .n))) (leb (s .group .count) 128)
-    (every (λ i. seatInOrder flat (s .group .n) (s .group .dead) i (getD (s .group .ranks) i zeroRank) (getD (s .tables) i [])) 64)
+    (five (eqb (misshapen (s .group .n) (s .group .form) (s .group .span)) 0) (not (eqb (minus (below (s .group .n)) (s .group .dead)) 0)) (isWithin (s .group .dead) (below (s .group .n))) (leb (s .group .count) 128)
+    (every (λ i. seatInOrder (ownTree s) (s .group .n) (s .group .dead) i (getD (s .group .ranks) i zeroRank) (getD (s .tables) i [])) 64)
     (every (λ i. placeInOrder (s .group .n) (s .group .dead) (s .group .count) i (getD (s .group .net) i zeroMessage)) 128)
-    (not-i (wrongSize (s .group .n)) (size-right (s .group .n) a b)))
+    (eq-eqb _ 0 a))
 
 pub shaped-from : (s : State) (t : List (List ℕ)) → length (s .group .ranks) ≡ 64 → length t ≡ 64 → t ≡ s .tables → length (s .group .net) ≡ 128 → Shaped s
 shaped-from s t a b e c = record { ranks-long = a; rows-long = sym (ap length e) ∙ b; net-long = c }

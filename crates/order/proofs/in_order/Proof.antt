@@ -1,48 +1,42 @@
--- `in_order` meets its contract: the tests are the clauses, and the arrays have their lengths. Assumes nothing.
+-- `in_order` meets its contract: size, form and box size first. Assumes nothing.
+use mathlib.Core.Path.{refl}
+use mathlib.Core.Bool.{false}
 use borrow.Author.Needs.{needs}
-use Rattle.order.proofs.Laws.Ordering.{in-order-test, shaped-from}
+use Rattle.sets.proofs.Laws.Bools.{clash}
+use Rattle.tree.proofs.Laws.Calls.{shape-zero}
+use Rattle.order.proofs.Laws.Ordering.{in-order-misshapen}
 use Rattle.order.proofs.in_order.Statement.{statement}
 use Rattle.order.proofs.in_order.Tie as tie
 
-below-requires : tie.Need-below-requires
-below-requires c κs = search needs
+cast-misshapen : tie.Need-cast-misshapen
+cast-misshapen c = search needs
 
-tables-of-requires : tie.Need-tables-of-requires
-tables-of-requires c κs = search needs
+cast-misshapen-2 : tie.Need-cast-misshapen-2
+cast-misshapen-2 c = search needs
 
-seats-in-order-requires : tie.Need-seats-in-order-requires
-seats-in-order-requires c κs = search needs
+cast-misshapen-3 : tie.Need-cast-misshapen-3
+cast-misshapen-3 c = search needs
 
-places-in-order-requires : tie.Need-places-in-order-requires
-places-in-order-requires c κs = search needs
-
-minus-requires : tie.Need-minus-requires
-minus-requires c κs = search needs
-
-is-within-requires : tie.Need-is-within-requires
-is-within-requires c κs = search needs
+misshapen-requires : tie.Need-misshapen-requires
+misshapen-requires c κs = search needs
 
 returns : tie.Need-returns
-returns c =
-    let within = c .before in
-    let less = within .before in
-    let net = less .before in
-    let ranks = net .before in
-    let tables = ranks .before in
-    let below = tables .before .before .before in
-    let pre = below .before .before .pre in (
-      in-order-test _ _ _ _ _ _ _ (pre .1) (pre .0) (below .below .ensures) (less .minus .ensures) (within .is-within .ensures) (tables .tables-of .ensures) (ranks .seats-in-order .ensures .0) (net .places-in-order .ensures .0),
-      shaped-from _ _ (ranks .seats-in-order .ensures .1 .0) (ranks .seats-in-order .ensures .1 .1) (tables .tables-of .ensures) (net .places-in-order .ensures .1),
-    )
+returns c = (search in-order-misshapen, λ t. absurd (clash false t refl))
+
+all-in-order-requires : tie.Need-all-in-order-requires
+all-in-order-requires c κs = search shape-zero
+
+returns-2 : tie.Need-returns-2
+returns-2 c = (c .all-in-order .ensures .0, λ t. c .all-in-order .ensures .1)
 
 pub in-order-spec : {M : Type 1} → statement M
 in-order-spec =
     tie.close
     (tie.spec
-    below-requires
-    tables-of-requires
-    seats-in-order-requires
-    places-in-order-requires
-    minus-requires
-    is-within-requires
-    returns)
+    cast-misshapen
+    cast-misshapen-2
+    cast-misshapen-3
+    misshapen-requires
+    returns
+    all-in-order-requires
+    returns-2)

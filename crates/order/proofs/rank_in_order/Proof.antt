@@ -18,7 +18,7 @@ array-read-parent : tie.Need-array-read-parent
 array-read-parent c = search needs
 
 children-of-requires : tie.Need-children-of-requires
-children-of-requires c κs = (search needs, (search needs, checked-fresh _ _ _ _ _ _ (c .before .before .fresh .ensures) (c .before .same .ensures) (c .if1 .left)))
+children-of-requires c κs = (search needs, (search needs, checked-fresh _ _ _ _ _ _ _ (c .before .before .fresh .ensures) (c .before .same .ensures) (c .if1 .left)))
 
 minus-requires : tie.Need-minus-requires
 minus-requires c κs = search needs
@@ -33,7 +33,10 @@ is-within-requires : tie.Need-is-within-requires
 is-within-requires c κs = search needs
 
 triples-within-requires : tie.Need-triples-within-requires
-triples-within-requires c κs = search needs
+triples-within-requires c κs =
+    let zero = c .before .before in
+    let awaited = zero .before .before .before .before .before .before in
+    awaited .before .before .before .before .before .pre .1 .0
 
 returns-2 : tie.Need-returns-2
 returns-2 c =
@@ -45,7 +48,7 @@ returns-2 c =
     let children = awaited .before in
     let fresh = children .before in
     let pre = fresh .before .before .before .pre in
-    tested _ _ _ _ _ _ _ _ _ _ _ _ _ (pre .0) (pre .1) (fresh .before .before .fresh .ensures) (fresh .before .same .ensures) (fresh .if1 .left) (children .children-of .ensures) (awaited .minus .ensures) (proper .sets-proper .ensures) (marked .is-within .ensures) (within .triples-within .ensures) (zero .is-zero .ensures)
+    tested _ _ _ _ _ _ _ _ _ _ _ _ _ (pre .1 .0) (pre .1 .1) (fresh .before .before .fresh .ensures) (fresh .before .same .ensures) (fresh .if1 .left) (children .children-of .ensures) (awaited .minus .ensures) (proper .sets-proper .ensures) (marked .is-within .ensures) (within .triples-within .ensures) (zero .is-zero .ensures)
 
 pub rank-in-order-spec : {M : Type 1} → statement M
 rank-in-order-spec =

@@ -8,7 +8,6 @@ use native.Mathlib.Omega.{arith}
 use lib.Dec.{eqb, ltb}
 use borrow.Author.Tests.{eqb-true, eqb-false, ltb-false}
 use Rattle.sets.proofs.Laws.Bools.{passes-or-fails}
-use Rattle.tree.specs.Tree.{flat}
 use Rattle.rank.specs.declared.Rank.{Rank}
 use Rattle.rank.specs.declared.Message.{Message}
 use Rattle.rank.specs.declared.Acted.{Acted}
@@ -59,11 +58,11 @@ planned-accepted anc n dead c ev m me r row p e z = first (passes-or-fails (eqb 
         let q : p ≡ refusing (refusal n dead c ev r m) r row = e ∙ rw h in
         absurd (eqb-false (refusal n dead c ev r m) 0 h (sym (ap (λ (y : Plan). y .answer) q) ∙ z))
 
-pub step-place : (n dead c : ℕ) (ev : Event) (m : Message) (me : ℕ) (r : Rank) (row : List ℕ) (p : Plan) → p ≡ planned flat n dead c ev m me r row → p .answer ≡ 0 → p .leaves ≡ true → ev .a < c
-step-place n dead c ev m me r row p e z t =
-    let x = planned-accepted flat n dead c ev m me r row p e z in
+pub step-place : (anc : ℕ → ℕ) (n dead c : ℕ) (ev : Event) (m : Message) (me : ℕ) (r : Rank) (row : List ℕ) (p : Plan) → p ≡ planned anc n dead c ev m me r row → p .answer ≡ 0 → p .leaves ≡ true → ev .a < c
+step-place anc n dead c ev m me r row p e z t =
+    let x = planned-accepted anc n dead c ev m me r row p e z in
     clean-place n dead c ev r m (x .clean) (sym (x .leaves-is) ∙ t)
 
-pub step-room : (n dead c : ℕ) (ev : Event) (m : Message) (me : ℕ) (r : Rank) (row : List ℕ) (p : Plan) → p ≡ planned flat n dead c ev m me r row → p .answer ≡ 0
+pub step-room : (anc : ℕ → ℕ) (n dead c : ℕ) (ev : Event) (m : Message) (me : ℕ) (r : Rank) (row : List ℕ) (p : Plan) → p ≡ planned anc n dead c ev m me r row → p .answer ≡ 0
     → c + size (p .acted .first) + size (p .acted .second) - cond (p .leaves) 1 0 ≤ 128
-step-room n dead c ev m me r row p e z = planned-accepted flat n dead c ev m me r row p e z .room
+step-room anc n dead c ev m me r row p e z = planned-accepted anc n dead c ev m me r row p e z .room

@@ -15,7 +15,9 @@ use Rattle.state.specs.declared.State.{State}
 use Rattle.order.specs.Between.{InOrder}
 use Rattle.group.specs.declared.Stepped.{Stepped}
 use Rattle.group.specs.Events.{refused, event}
+use Rattle.group.specs.Reaching.{SameForm}
 use Rattle.group.proofs.Laws.Events.{refused-says}
+use Rattle.group.proofs.Forms.{an-event-keeps-the-form}
 use Rattle.group.proofs.Laws.Moving.{event-keeps-order}
 use Rattle.playing.specs.Playing.{Run, written, told, eventIn, played, spelt}
 use Rattle.playing.proofs.Laws.Slices.{written-long, written-keeps, agree-written, spelt-long, spelt-keeps, spelt-reads}
@@ -39,6 +41,16 @@ pub played-next : (anc : ℕ → ℕ) (events : ℕ → Event) (left k : ℕ) (s
     → played anc events (suc left) k s out ≡ played anc events left (k + 1) (r .state) (written out k (r .answer) (r .sent) (r .moved .count))
 unfolding told
 played-next = played-tells
+
+-- The final state has the form and the box size of the first.
+pub played-keeps-the-form : (anc : ℕ → ℕ) (events : ℕ → Event) (left k : ℕ) (s : State) (out : List ℕ) → SameForm (played anc events left k s out .state) s
+unfolding played
+played-keeps-the-form anc events zero k s out = (refl, refl)
+played-keeps-the-form anc events (suc left) k s out =
+    let r = event anc s (events k) in
+    let e = played-keeps-the-form anc events left (k + 1) (r .state) (told out k r) in
+    let f = an-event-keeps-the-form anc s (events k) in
+    (e .0 ∙ f .0, e .1 ∙ f .1)
 
 -- Events in two turns.
 pub played-splits : (anc : ℕ → ℕ) (events : ℕ → Event) (i j k : ℕ) (s : State) (out : List ℕ)

@@ -3,6 +3,7 @@ use borrow.Author.Needs.{needs}
 use mathlib.Core.Path.{sym, _∙_}
 use Prim.Native.Nat.{_-_}
 use native.Mathlib.Omega.{arith}
+use Rattle.tree.specs.Forms.{treeOf}
 use Rattle.net.specs.Net.{messagesOf, Small}
 use Rattle.plans.proofs.Laws.Accepting.{step-place, step-room}
 use Rattle.group.proofs.Laws.Stepping.{step-held, step-count}
@@ -11,20 +12,20 @@ use Rattle.playing.proofs.play.Statement.{statement}
 use Rattle.playing.proofs.play.Tie as tie
 
 abbrev Inv-loop : tie.InvT-loop
-Inv-loop total out₀ n dead₀ count₀ ranks₀ net₀ tables₀ k₀ out dead count ranks net tables k =
-    Going total (held n dead₀ count₀ ranks₀ (messagesOf net₀) tables₀) out₀ (held n dead count ranks (messagesOf net) tables) out k × Small net
+Inv-loop total out₀ n form span dead₀ count₀ ranks₀ net₀ tables₀ k₀ out dead count ranks net tables k =
+    Going (treeOf form span) total (held n form span dead₀ count₀ ranks₀ (messagesOf net₀) tables₀) out₀ (held n form span dead count ranks (messagesOf net) tables) out k × Small net
 
 abbrev μ-loop : tie.MeasureT-loop
-μ-loop total out₀ n dead₀ count₀ ranks₀ net₀ tables₀ k₀ out dead count ranks net tables k = total - k
+μ-loop total out₀ n form span dead₀ count₀ ranks₀ net₀ tables₀ k₀ out dead count ranks net tables k = total - k
 
 numbers-requires : tie.Need-numbers-requires Inv-loop μ-loop
-numbers-requires c κs = (step-held _ (c .before .before .before .before .pre .0), step-count _ (c .before .before .before .before .pre .0))
+numbers-requires c κs = (step-held _ _ (c .before .before .before .before .pre .0), step-count _ _ (c .before .before .before .before .pre .0))
 
 tables-of-requires : tie.Need-tables-of-requires Inv-loop μ-loop
 tables-of-requires c κs = search needs
 
 loop-holds : tie.Need-loop-holds Inv-loop μ-loop
-loop-holds c = (going-begin _ _ _ _ _ (c .before .numbers .ensures .0) (c .tables-of .ensures) (c .before .before .before .before .before .before .pre .1) (c .before .before .before .before .before .before .pre .0), c .before .numbers .ensures .1)
+loop-holds c = (going-begin _ _ _ _ _ _ (c .before .numbers .ensures .0) (c .tables-of .ensures) (c .before .before .before .before .before .before .pre .1) (c .before .before .before .before .before .before .pre .0), c .before .numbers .ensures .1)
 
 event-in-requires : tie.Need-event-in-requires Inv-loop μ-loop
 event-in-requires c κs = search going-room
@@ -45,12 +46,12 @@ array-copy-out-refusal : tie.Need-array-copy-out-refusal Inv-loop μ-loop
 array-copy-out-refusal c = search going-subject
 
 refusal-requires : tie.Need-refusal-requires Inv-loop μ-loop
-refusal-requires c κs = going-small _ _ _ _ _ _ _ _ _ _ _ (c .before .before .before .before .before .before .before .loop .inv .0)
+refusal-requires c κs = going-small _ _ _ _ _ _ _ _ _ _ _ _ _ _ (c .before .before .before .before .before .before .before .loop .inv .0)
 
 put-three-requires : tie.Need-put-three-requires Inv-loop μ-loop
 put-three-requires c κs =
     let turn = c .before .before .before .before .before .before .before .before .before in
-    going-room _ _ _ _ _ _ (turn .before .loop .inv .0) (turn .loop-test .taken)
+    going-room _ _ _ _ _ _ _ (turn .before .loop .inv .0) (turn .loop-test .taken)
 
 add-k : tie.Need-add-k Inv-loop μ-loop
 add-k c = omega (arith, c .before .before .before .before .before .before .before .before .before .before .before .before .loop-test .taken, c .before .before .before .before .before .before .before .before .before .before .before .before .before .before .before .before .before .before .before .before .fits)
@@ -67,7 +68,7 @@ loop-again c =
     let message = subject .before in
     let event = message .before .before in
     let turn = event .before .before in
-    (going-unplanned _ _ _ _ _ _ _ _ _ _ _ _ _ _ _ _ (turn .before .loop .inv .0) (turn .loop-test .taken) (event .event-in .ensures) (message .message-at .ensures) (subject .subject .ensures) (told .refusal .ensures) (put .put-three .ensures) (left .if1 .taken), turn .before .loop .inv .1)
+    (going-unplanned _ _ _ _ _ _ _ _ _ _ _ _ _ _ _ _ _ _ _ (turn .before .loop .inv .0) (turn .loop-test .taken) (event .event-in .ensures) (message .message-at .ensures) (subject .subject .ensures) (told .refusal .ensures) (put .put-three .ensures) (left .if1 .taken), turn .before .loop .inv .1)
 
 cast-r : tie.Need-cast-r Inv-loop μ-loop
 cast-r c = search needs
@@ -78,7 +79,7 @@ mul-r c = search needs
 array-copy-out-r : tie.Need-array-copy-out-r Inv-loop μ-loop
 array-copy-out-r c =
     let subject = c .before .before .before in
-    going-subject _ _ _ _ _ _ _ _ _ _ _ _ _ _ (subject .before .before .before .before .before .before .loop .inv .0) (subject .before .message-at .ensures) (subject .subject .ensures)
+    going-subject _ _ _ _ _ _ _ _ _ _ _ _ _ _ _ _ _ (subject .before .before .before .before .before .before .loop .inv .0) (subject .before .message-at .ensures) (subject .subject .ensures)
 
 cast-row : tie.Need-cast-row Inv-loop μ-loop
 cast-row c = search needs
@@ -89,18 +90,18 @@ mul-row c = search needs
 array-copy-out-row : tie.Need-array-copy-out-row Inv-loop μ-loop
 array-copy-out-row c =
     let subject = c .before .before .before .before in
-    going-subject _ _ _ _ _ _ _ _ _ _ _ _ _ _ (subject .before .before .before .before .before .before .loop .inv .0) (subject .before .message-at .ensures) (subject .subject .ensures)
+    going-subject _ _ _ _ _ _ _ _ _ _ _ _ _ _ _ _ _ (subject .before .before .before .before .before .before .loop .inv .0) (subject .before .message-at .ensures) (subject .subject .ensures)
 
 plan-clean-requires : tie.Need-plan-clean-requires Inv-loop μ-loop
 plan-clean-requires c κs =
     let told = c .before .before .before in
     let subject = told .before .before in
-    (going-ready _ _ _ _ _ _ _ _ _ _ _ _ _ _ (subject .before .before .before .before .before .before .loop .inv .0) (subject .before .message-at .ensures) (subject .subject .ensures), sym (told .refusal .ensures) ∙ c .before .before .if1 .left)
+    (going-ready _ _ _ _ _ _ _ _ _ _ _ _ _ _ _ _ _ (subject .before .before .before .before .before .before .loop .inv .0) (subject .before .message-at .ensures) (subject .subject .ensures), sym (told .refusal .ensures) ∙ c .before .before .if1 .left)
 
 put-three-requires-2 : tie.Need-put-three-requires-2 Inv-loop μ-loop
 put-three-requires-2 c κs =
     let turn = c .before .before .before .before .before .before .before .before .before .before .before .before .before .before in
-    going-room _ _ _ _ _ _ (turn .before .loop .inv .0) (turn .loop-test .taken)
+    going-room _ _ _ _ _ _ _ (turn .before .loop .inv .0) (turn .loop-test .taken)
 
 add-k-2 : tie.Need-add-k-2 Inv-loop μ-loop
 add-k-2 c = omega (arith, c .before .before .before .before .before .before .before .before .before .before .before .before .before .before .before .before .before .loop-test .taken, c .before .before .before .before .before .before .before .before .before .before .before .before .before .before .before .before .before .before .before .before .before .before .before .before .before .fits)
@@ -117,19 +118,19 @@ loop-again-2 c =
     let message = subject .before in
     let event = message .before .before in
     let turn = event .before .before in
-    (going-refused _ _ _ _ _ _ _ _ _ _ _ _ _ _ _ _ (turn .before .loop .inv .0) (turn .loop-test .taken) (event .event-in .ensures) (message .message-at .ensures) (subject .subject .ensures) (plan .plan-clean .ensures) (put .put-three2 .ensures) (left .if2 .taken), turn .before .loop .inv .1)
+    (going-refused _ _ _ _ _ _ _ _ _ _ _ _ _ _ _ _ _ _ _ (turn .before .loop .inv .0) (turn .loop-test .taken) (event .event-in .ensures) (message .message-at .ensures) (subject .subject .ensures) (plan .plan-clean .ensures) (put .put-three2 .ensures) (left .if2 .taken), turn .before .loop .inv .1)
 
 post-requires : tie.Need-post-requires Inv-loop μ-loop
 post-requires c κs =
     let left = c .before in
     let plan = left .before .before in
     let inv = plan .before .before .before .before .before .before .before .before .before .before .before .before .loop .inv in
-    (going-held _ _ _ _ _ _ _ _ _ _ _ (inv .0), (going-count _ _ _ _ _ _ _ _ _ _ _ (inv .0), (λ t. step-place _ _ _ _ _ _ _ _ _ (plan .plan-clean .ensures) (left .if2 .left) t, (step-room _ _ _ _ _ _ _ _ _ (plan .plan-clean .ensures) (left .if2 .left), inv .1))))
+    (going-held _ _ _ _ _ _ _ _ _ _ _ _ _ _ (inv .0), (going-count _ _ _ _ _ _ _ _ _ _ _ _ _ _ (inv .0), (λ t. step-place _ _ _ _ _ _ _ _ _ _ (plan .plan-clean .ensures) (left .if2 .left) t, (step-room _ _ _ _ _ _ _ _ _ _ (plan .plan-clean .ensures) (left .if2 .left), inv .1))))
 
 put-three-requires-3 : tie.Need-put-three-requires-3 Inv-loop μ-loop
 put-three-requires-3 c κs =
     let turn = c .before .before .before .before .before .before .before .before .before .before .before .before .before .before .before .before .before .before in
-    going-room _ _ _ _ _ _ (turn .before .loop .inv .0) (turn .loop-test .taken)
+    going-room _ _ _ _ _ _ _ (turn .before .loop .inv .0) (turn .loop-test .taken)
 
 add-k-3 : tie.Need-add-k-3 Inv-loop μ-loop
 add-k-3 c = omega (arith, c .before .before .before .before .before .before .before .before .before .before .before .before .before .before .before .before .before .before .before .before .before .loop-test .taken, c .before .before .before .before .before .before .before .before .before .before .before .before .before .before .before .before .before .before .before .before .before .before .before .before .before .before .before .before .before .fits)
@@ -137,37 +138,37 @@ add-k-3 c = omega (arith, c .before .before .before .before .before .before .bef
 buried-requires : tie.Need-buried-requires Inv-loop μ-loop
 buried-requires c κs =
     let subject = c .before .before .before .before .before .before .before .before .before .before .before .before .before .before .before .before in
-    going-subject _ _ _ _ _ _ _ _ _ _ _ _ _ _ (subject .before .before .before .before .before .before .loop .inv .0) (subject .before .message-at .ensures) (subject .subject .ensures)
+    going-subject _ _ _ _ _ _ _ _ _ _ _ _ _ _ _ _ _ (subject .before .before .before .before .before .before .loop .inv .0) (subject .before .message-at .ensures) (subject .subject .ensures)
 
 cast-ranks : tie.Need-cast-ranks Inv-loop μ-loop
 cast-ranks c =
     let subject = c .before .before .before .before .before .before .before .before .before .before .before .before .before .before .before .before .before .before .before in
-    omega (arith, going-subject _ _ _ _ _ _ _ _ _ _ _ _ _ _ (subject .before .before .before .before .before .before .loop .inv .0) (subject .before .message-at .ensures) (subject .subject .ensures))
+    omega (arith, going-subject _ _ _ _ _ _ _ _ _ _ _ _ _ _ _ _ _ (subject .before .before .before .before .before .before .loop .inv .0) (subject .before .message-at .ensures) (subject .subject .ensures))
 
 mul-ranks : tie.Need-mul-ranks Inv-loop μ-loop
 mul-ranks c =
     let subject = c .before .before .before .before .before .before .before .before .before .before .before .before .before .before .before .before .before .before .before in
-    omega (arith, going-subject _ _ _ _ _ _ _ _ _ _ _ _ _ _ (subject .before .before .before .before .before .before .loop .inv .0) (subject .before .message-at .ensures) (subject .subject .ensures))
+    omega (arith, going-subject _ _ _ _ _ _ _ _ _ _ _ _ _ _ _ _ _ (subject .before .before .before .before .before .before .loop .inv .0) (subject .before .message-at .ensures) (subject .subject .ensures))
 
 array-set-from-ranks : tie.Need-array-set-from-ranks Inv-loop μ-loop
 array-set-from-ranks c =
     let subject = c .before .before .before .before .before .before .before .before .before .before .before .before .before .before .before .before .before .before .before in
-    going-subject _ _ _ _ _ _ _ _ _ _ _ _ _ _ (subject .before .before .before .before .before .before .loop .inv .0) (subject .before .message-at .ensures) (subject .subject .ensures)
+    going-subject _ _ _ _ _ _ _ _ _ _ _ _ _ _ _ _ _ (subject .before .before .before .before .before .before .loop .inv .0) (subject .before .message-at .ensures) (subject .subject .ensures)
 
 cast-tables : tie.Need-cast-tables Inv-loop μ-loop
 cast-tables c =
     let subject = c .before .before .before .before .before .before .before .before .before .before .before .before .before .before .before .before .before .before .before .before .before .before in
-    omega (arith, going-subject _ _ _ _ _ _ _ _ _ _ _ _ _ _ (subject .before .before .before .before .before .before .loop .inv .0) (subject .before .message-at .ensures) (subject .subject .ensures))
+    omega (arith, going-subject _ _ _ _ _ _ _ _ _ _ _ _ _ _ _ _ _ (subject .before .before .before .before .before .before .loop .inv .0) (subject .before .message-at .ensures) (subject .subject .ensures))
 
 mul-tables : tie.Need-mul-tables Inv-loop μ-loop
 mul-tables c =
     let subject = c .before .before .before .before .before .before .before .before .before .before .before .before .before .before .before .before .before .before .before .before .before .before in
-    omega (arith, going-subject _ _ _ _ _ _ _ _ _ _ _ _ _ _ (subject .before .before .before .before .before .before .loop .inv .0) (subject .before .message-at .ensures) (subject .subject .ensures))
+    omega (arith, going-subject _ _ _ _ _ _ _ _ _ _ _ _ _ _ _ _ _ (subject .before .before .before .before .before .before .loop .inv .0) (subject .before .message-at .ensures) (subject .subject .ensures))
 
 array-set-from-tables : tie.Need-array-set-from-tables Inv-loop μ-loop
 array-set-from-tables c =
     let subject = c .before .before .before .before .before .before .before .before .before .before .before .before .before .before .before .before .before .before .before .before .before .before in
-    going-subject _ _ _ _ _ _ _ _ _ _ _ _ _ _ (subject .before .before .before .before .before .before .loop .inv .0) (subject .before .message-at .ensures) (subject .subject .ensures)
+    going-subject _ _ _ _ _ _ _ _ _ _ _ _ _ _ _ _ _ (subject .before .before .before .before .before .before .loop .inv .0) (subject .before .message-at .ensures) (subject .subject .ensures)
 
 loop-less-3 : tie.Need-loop-less-3 Inv-loop μ-loop
 loop-less-3 c = omega (arith, c .before .before .before .before .before .before .before .before .before .before .before .before .before .before .before .before .before .before .before .before .before .before .before .before .before .before .before .loop-test .taken)
@@ -183,7 +184,7 @@ loop-again-3 c =
     let message = subject .before in
     let event = message .before .before in
     let turn = event .before .before in
-    (going-accepted _ _ _ _ _ _ _ _ _ _ _ _ _ _ _ _ _ _ _ _ (turn .before .loop .inv .0) (turn .loop-test .taken) (event .event-in .ensures) (message .message-at .ensures) (subject .subject .ensures) (plan .plan-clean .ensures) (left .if2 .left) (forth .post .ensures .1 .0) (forth .post .ensures .1 .1 .0) (forth .post .ensures .1 .1 .1) (put .put-three3 .ensures) (buried .buried .ensures), forth .post .ensures .0)
+    (going-accepted _ _ _ _ _ _ _ _ _ _ _ _ _ _ _ _ _ _ _ _ _ _ _ (turn .before .loop .inv .0) (turn .loop-test .taken) (event .event-in .ensures) (message .message-at .ensures) (subject .subject .ensures) (plan .plan-clean .ensures) (left .if2 .left) (forth .post .ensures .1 .0) (forth .post .ensures .1 .1 .0) (forth .post .ensures .1 .1 .1) (put .put-three3 .ensures) (buried .buried .ensures), forth .post .ensures .0)
 
 loop-less-4 : tie.Need-loop-less-4 Inv-loop μ-loop
 loop-less-4 c = omega (arith, c .before .before .before .before .before .before .before .before .before .before .before .before .before .before .before .before .before .before .before .before .before .before .before .before .before .before .before .loop-test .taken)
@@ -199,11 +200,11 @@ loop-again-4 c =
     let message = subject .before in
     let event = message .before .before in
     let turn = event .before .before in
-    let taken = going-accepted _ _ _ _ _ _ _ _ _ _ _ _ _ _ _ _ _ _ _ _ (turn .before .loop .inv .0) (turn .loop-test .taken) (event .event-in .ensures) (message .message-at .ensures) (subject .subject .ensures) (plan .plan-clean .ensures) (left .if2 .left) (forth .post .ensures .1 .0) (forth .post .ensures .1 .1 .0) (forth .post .ensures .1 .1 .1) (put .put-three3 .ensures) (buried .buried .ensures) in
-    (going-row _ _ _ _ _ _ _ _ _ _ _ _ _ _ _ _ _ _ _ _ _ (turn .before .loop .inv .0) (message .message-at .ensures) (subject .subject .ensures) (c .if3 .left) taken, forth .post .ensures .0)
+    let taken = going-accepted _ _ _ _ _ _ _ _ _ _ _ _ _ _ _ _ _ _ _ _ _ _ _ (turn .before .loop .inv .0) (turn .loop-test .taken) (event .event-in .ensures) (message .message-at .ensures) (subject .subject .ensures) (plan .plan-clean .ensures) (left .if2 .left) (forth .post .ensures .1 .0) (forth .post .ensures .1 .1 .0) (forth .post .ensures .1 .1 .1) (put .put-three3 .ensures) (buried .buried .ensures) in
+    (going-row _ _ _ _ _ _ _ _ _ _ _ _ _ _ _ _ _ _ _ _ _ _ _ _ (turn .before .loop .inv .0) (message .message-at .ensures) (subject .subject .ensures) (c .if3 .left) taken, forth .post .ensures .0)
 
 messages-requires : tie.Need-messages-requires Inv-loop μ-loop
-messages-requires c κs = (going-held _ _ _ _ _ _ _ _ _ _ _ (c .before .loop .inv .0), going-count _ _ _ _ _ _ _ _ _ _ _ (c .before .loop .inv .0))
+messages-requires c κs = (going-held _ _ _ _ _ _ _ _ _ _ _ _ _ _ (c .before .loop .inv .0), going-count _ _ _ _ _ _ _ _ _ _ _ _ _ _ (c .before .loop .inv .0))
 
 assemble-requires : tie.Need-assemble-requires Inv-loop μ-loop
 assemble-requires c κs = search needs
@@ -215,7 +216,7 @@ returns : tie.Need-returns Inv-loop μ-loop
 returns c =
     let looped = c .before .before .before in
     let tables = looped .before in
-    going-end _ _ _ _ _ _ _ _ _ (tables .before .numbers .ensures .0) (tables .tables-of .ensures) (looped .loop .inv .0) (c .before .before .loop-test .left) (put-back _ _ _ _ _ _ _ _ (c .assemble .ensures) (c .before .messages .ensures))
+    going-end _ _ _ _ _ _ _ _ _ _ (tables .before .numbers .ensures .0) (tables .tables-of .ensures) (looped .loop .inv .0) (c .before .before .loop-test .left) (put-back _ _ _ _ _ _ _ _ _ _ (c .assemble .ensures) (c .before .messages .ensures))
 
 pub play-spec : {M : Type 1} → statement M
 play-spec =

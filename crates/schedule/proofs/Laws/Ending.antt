@@ -10,8 +10,9 @@ use lib.ListN.{length}
 use borrow.Author.Tests.{ltb-false}
 use Rattle.sets.proofs.Laws.Bools.{passes-or-fails}
 use Rattle.tree.specs.Tree.{flat}
+use Rattle.tree.specs.Forms.{flatForm}
 use Rattle.tree.specs.Calls.{wrongSize}
-use Rattle.tree.proofs.Laws.Calls.{size-le, size-pos}
+use Rattle.tree.proofs.Laws.Calls.{flat-shapely}
 use Rattle.state.specs.declared.State.{State}
 use Rattle.state.specs.Starting.{freshState}
 use Rattle.order.proofs.Laws.Ordering.{in-order-facts}
@@ -29,18 +30,18 @@ use Rattle.schedule.proofs.Laws.Opening.{opened-bad}
 pub record Whole (file out : List ℕ) (n events : ℕ) : Type 0 where
   pub opens : Opened file n events
   pub room : 3 * events ≤ length out
-  pub run-is : run flat file out ≡ played flat (eventAt file) events 0 (freshState flat n) out
+  pub run-is : run file out ≡ played flat (eventAt file) events 0 (freshState flat n flatForm 1) out
 
-pub run-whole : (file out : List ℕ) (C : Type 0) → run flat file out .answer ≡ 0 → ((n events : ℕ) → Whole file out n events → C) → C
+pub run-whole : (file out : List ℕ) (C : Type 0) → run file out .answer ≡ 0 → ((n events : ℕ) → Whole file out n events → C) → C
 unfolding run opened refusedRun
 run-whole file out C z go = from (header file) refl
   where
     room : (n t : ℕ) → header file ≡ Good n t → (ltb (length out) (3 * t) ≡ true) ⊎ (ltb (length out) (3 * t) ≡ false) → C
-    room n t e (inl l) = let q : run flat file out .answer ≡ 25 = rw (e, l) in absurd (omega arith)
+    room n t e (inl l) = let q : run file out .answer ≡ 25 = rw (e, l) in absurd (omega arith)
     room n t e (inr l) = go n t (record { opens = good-opened file n t (sym e); room = ltb-false (length out) (3 * t) l; run-is = rw (e, l) })
 
     bad : (h : Header) → header file ≡ h → goodness h ≡ false → C
-    bad h e g = absurd (bad-number h g (sym (ap (λ (x : Run). x .answer) (ap (opened flat file out) e ∙ opened-bad file out h g)) ∙ z))
+    bad h e g = absurd (bad-number h g (sym (ap (λ (x : Run). x .answer) (ap (opened file out) e ∙ opened-bad file out h g)) ∙ z))
 
     from : (h : Header) → header file ≡ h → C
     from (Good n t) e = room n t e (passes-or-fails (ltb (length out) (3 * t)))
@@ -59,20 +60,20 @@ pub record Ended (file out : List ℕ) (s : State) (answers : List ℕ) : Type 0
   pub few : eventsIn file ≤ 4096
   pub size : s .group .n ≤ 64
 
-pub run-ended : (file out : List ℕ) (a : ℕ) (s : State) (answers : List ℕ) → a ≡ run flat file out .answer → s ≡ run flat file out .state → answers ≡ run flat file out .answers → a ≡ 0 → Ended file out s answers
+pub run-ended : (file out : List ℕ) (a : ℕ) (s : State) (answers : List ℕ) → a ≡ run file out .answer → s ≡ run file out .state → answers ≡ run file out .answers → a ≡ 0 → Ended file out s answers
 run-ended file out a s answers ea es ev z = run-whole file out (Ended file out s answers) (sym ea ∙ z) whole
   where
     whole : (n events : ℕ) → Whole file out n events → Ended file out s answers
     whole n events w =
         let o = w .opens in
-        let f = fresh-in-order flat n (size-pos n (o .size)) (size-le n (wrongSize n) refl (o .size)) in
-        let st : s ≡ played flat (eventAt file) events 0 (freshState flat n) out .state = es ∙ ap (λ (x : Run). x .state) (w .run-is) in
-        let an : answers ≡ played flat (eventAt file) events 0 (freshState flat n) out .answers = ev ∙ ap (λ (x : Run). x .answers) (w .run-is) in
-        let kept : length answers ≡ length out = ap length an ∙ played-long flat (eventAt file) events 0 (freshState flat n) out in
+        let f = fresh-in-order flat n flatForm 1 (flat-shapely n (o .size)) in
+        let st : s ≡ played flat (eventAt file) events 0 (freshState flat n flatForm 1) out .state = es ∙ ap (λ (x : Run). x .state) (w .run-is) in
+        let an : answers ≡ played flat (eventAt file) events 0 (freshState flat n flatForm 1) out .answers = ev ∙ ap (λ (x : Run). x .answers) (w .run-is) in
+        let kept : length answers ≡ length out = ap length an ∙ played-long flat (eventAt file) events 0 (freshState flat n flatForm 1) out in
         record {
           long = omega (arith, o .whole);
           short = o .short;
           room = omega (arith, w .room, o .events-are);
           few = omega (arith, o .whole, o .short, o .events-are);
-          size = subst (λ (x : State). x .group .n ≤ 64) (sym st) (in-order-facts flat (played flat (eventAt file) events 0 (freshState flat n) out .state) (played-in-order flat (eventAt file) events 0 (freshState flat n) out f) .size-high);
+          size = subst (λ (x : State). x .group .n ≤ 64) (sym st) (in-order-facts flat (played flat (eventAt file) events 0 (freshState flat n flatForm 1) out .state) (played-in-order flat (eventAt file) events 0 (freshState flat n flatForm 1) out f) .shape .small);
         }

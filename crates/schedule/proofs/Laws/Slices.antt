@@ -8,6 +8,7 @@ use native.Mathlib.Omega.{arith}
 use lib.ListN.{length, getD}
 use borrow.Author.Tests.{le-ltb}
 use Rattle.tree.specs.Tree.{flat}
+use Rattle.tree.specs.Forms.{flatForm}
 use Rattle.state.specs.Starting.{freshState}
 use Rattle.files.specs.declared.Header.{Header}
 use Rattle.files.specs.declared.Header.the-variants.{Good, NoHeader, WrongMark, WrongVersion, WrongSize, TooLong, Broken}
@@ -25,9 +26,9 @@ Agree a b m = (j : ℕ) → j < m → getD a j 0 ≡ getD b j 0
 -- ---- the whole run
 
 pub record SameRun (file a b : List ℕ) : Type 0 where
-  pub answer-same : run flat file a .answer ≡ run flat file b .answer
-  pub state-same : run flat file a .state ≡ run flat file b .state
-  pub answers-same : run flat file a .answer ≡ 0 → Agree (run flat file a .answers) (run flat file b .answers) (3 * eventsIn file)
+  pub answer-same : run file a .answer ≡ run file b .answer
+  pub state-same : run file a .state ≡ run file b .state
+  pub answers-same : run file a .answer ≡ 0 → Agree (run file a .answers) (run file b .answers) (3 * eventsIn file)
 
 -- A slice with room for the most events is never too short.
 pub same-run : (file a b : List ℕ) → 3 * mostEvents ≤ length a → 3 * mostEvents ≤ length b → SameRun file a b
@@ -41,17 +42,17 @@ same-run file a b ra rb = from (header file) refl
         let s : length file ≤ longest = o .short in
         let la : 3 * t ≤ length a = omega arith in
         let lb : 3 * t ≤ length b = omega arith in
-        let g : Agree (played flat (eventAt file) t 0 (freshState flat n) a .answers) (played flat (eventAt file) t 0 (freshState flat n) b .answers) (3 * (0 + t)) = answers-agree flat (eventAt file) t 0 (freshState flat n) a b (omega arith) (omega arith) (λ j k. absurd (omega arith)) in
+        let g : Agree (played flat (eventAt file) t 0 (freshState flat n flatForm 1) a .answers) (played flat (eventAt file) t 0 (freshState flat n flatForm 1) b .answers) (3 * (0 + t)) = answers-agree flat (eventAt file) t 0 (freshState flat n flatForm 1) a b (omega arith) (omega arith) (λ j k. absurd (omega arith)) in
         record {
-          answer-same = rw (h, le-ltb (length a) (3 * t) la, le-ltb (length b) (3 * t) lb) (played-answers flat (eventAt file) t 0 (freshState flat n) a ∙ sym (played-answers flat (eventAt file) t 0 (freshState flat n) b));
-          state-same = rw (h, le-ltb (length a) (3 * t) la, le-ltb (length b) (3 * t) lb) (states-agree flat (eventAt file) t 0 (freshState flat n) a b);
+          answer-same = rw (h, le-ltb (length a) (3 * t) la, le-ltb (length b) (3 * t) lb) (played-answers flat (eventAt file) t 0 (freshState flat n flatForm 1) a ∙ sym (played-answers flat (eventAt file) t 0 (freshState flat n flatForm 1) b));
+          state-same = rw (h, le-ltb (length a) (3 * t) la, le-ltb (length b) (3 * t) lb) (states-agree flat (eventAt file) t 0 (freshState flat n flatForm 1) a b);
           answers-same = λ z. rw (h, le-ltb (length a) (3 * t) la, le-ltb (length b) (3 * t) lb) (λ j k. g j (omega (arith, o .events-are)));
         }
 
     bad : (h : Header) → header file ≡ h → goodness h ≡ false → SameRun file a b
     bad h f g =
-        let p : run flat file a ≡ refusedRun (numberOf h) a = ap (opened flat file a) f ∙ opened-bad file a h g in
-        let q : run flat file b ≡ refusedRun (numberOf h) b = ap (opened flat file b) f ∙ opened-bad file b h g in
+        let p : run file a ≡ refusedRun (numberOf h) a = ap (opened file a) f ∙ opened-bad file a h g in
+        let q : run file b ≡ refusedRun (numberOf h) b = ap (opened file b) f ∙ opened-bad file b h g in
         record {
           answer-same = ap (λ (x : Run). x .answer) p ∙ sym (ap (λ (x : Run). x .answer) q);
           state-same = ap (λ (x : Run). x .state) p ∙ sym (ap (λ (x : Run). x .state) q);

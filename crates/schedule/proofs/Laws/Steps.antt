@@ -6,8 +6,9 @@ use Prim.Native.Nat.{ℕ, zero, suc, _+_, _*_}
 use lib.Dec.{ltb}
 use lib.ListN.{length}
 use Rattle.tree.specs.Tree.{flat}
+use Rattle.tree.specs.Forms.{flatForm}
 use Rattle.tree.specs.Calls.{wrongSize}
-use Rattle.tree.proofs.Laws.Calls.{size-le, size-pos}
+use Rattle.tree.proofs.Laws.Calls.{flat-shapely}
 use Rattle.events.specs.declared.Event.{Event}
 use Rattle.state.specs.declared.State.{State}
 use Rattle.state.specs.Starting.{freshState}
@@ -32,15 +33,15 @@ played-steps events (suc left) k s out o =
     let r = stepped flat s (events k) in
     played-tells flat events left k s out r (event-steps-on flat s (events k) o) ∙ played-steps events left (k + 1) (r .state) (told out k r) (step-keeps-order flat s (events k) o)
 
-pub run-steps : (file out : List ℕ) → run flat file out ≡ steppedRun file out
+pub run-steps : (file out : List ℕ) → run file out ≡ steppedRun file out
 unfolding run opened steppedOn steppedRun
 run-steps file out = go (header file) refl
   where
-    go : (h : Header) → header file ≡ h → opened flat file out h ≡ steppedOn file out h
+    go : (h : Header) → header file ≡ h → opened file out h ≡ steppedOn file out h
     go (Good n events) e =
         let o = good-opened file n events (sym e) in
         ap (λ (r : Run). cond (ltb (length out) (3 * events)) (refusedRun 25 out) r)
-        (played-steps (eventAt file) events 0 (freshState flat n) out (fresh-in-order flat n (size-pos n (o .size)) (size-le n (wrongSize n) refl (o .size))))
+        (played-steps (eventAt file) events 0 (freshState flat n flatForm 1) out (fresh-in-order flat n flatForm 1 (flat-shapely n (o .size))))
     go NoHeader e = refl
     go WrongMark e = refl
     go WrongVersion e = refl

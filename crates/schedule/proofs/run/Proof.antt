@@ -40,6 +40,9 @@ returns-2 c =
 cast-start : tie.Need-cast-start
 cast-start c = search needs
 
+cast-start-2 : tie.Need-cast-start-2
+cast-start-2 c = search needs
+
 start-requires : tie.Need-start-requires
 start-requires c κs = search needs
 
@@ -81,6 +84,7 @@ run-spec =
     refuse-requires-2
     returns-2
     cast-start
+    cast-start-2
     start-requires
     spell-requires
     play-requires

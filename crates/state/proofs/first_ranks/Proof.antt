@@ -1,7 +1,7 @@
 -- `first_ranks` meets its contract. The invariant: the records before i are fresh. Assumes nothing.
 use Prim.Native.Nat.{_-_}
 use borrow.Author.Needs.{needs}
-use Rattle.tree.specs.Tree.{flat}
+use Rattle.tree.specs.Forms.{treeOf}
 use Rattle.rank.proofs.Laws.Keeping.{fresh-row-kept}
 use Rattle.state.proofs.Laws.Starting.{Filled, filled-from, ranks-put, ranks-end}
 use Rattle.state.specs.Starting.{firstRank}
@@ -10,10 +10,10 @@ use Rattle.state.proofs.first_ranks.Statement.{statement}
 use Rattle.state.proofs.first_ranks.Tie as tie
 
 abbrev Inv-loop : tie.InvT-loop
-Inv-loop n table ranks₀ i₀ ranks i = Filled zeroRank (firstRank flat n) zeroRank n i ranks
+Inv-loop n form span table ranks₀ i₀ ranks i = Filled zeroRank (firstRank (treeOf form span) n) zeroRank n i ranks
 
 abbrev μ-loop : tie.MeasureT-loop
-μ-loop n table ranks₀ i₀ ranks i = n - i
+μ-loop n form span table ranks₀ i₀ ranks i = n - i
 
 no-rank-requires : tie.Need-no-rank-requires Inv-loop μ-loop
 no-rank-requires c κs = search needs

@@ -4,17 +4,17 @@ use borrow.Author.Needs.{needs}
 use lib.ListN.{replicate}
 use mathlib.Core.List.{[]}
 use Rattle.sets.specs.Sets.{none}
-use Rattle.tree.specs.Tree.{flat}
+use Rattle.tree.specs.Forms.{treeOf}
 use Rattle.state.proofs.Laws.Starting.{Filled, filled-start, rows-put, rows-end}
 use Rattle.state.specs.Starting.{firstRow}
 use Rattle.state.proofs.first_rows.Statement.{statement}
 use Rattle.state.proofs.first_rows.Tie as tie
 
 abbrev Inv-loop : tie.InvT-loop
-Inv-loop n table tables₀ i₀ tables i = Filled [] (firstRow flat n) (replicate 64 none) n i tables
+Inv-loop n form span table tables₀ i₀ tables i = Filled [] (firstRow (treeOf form span) n) (replicate 64 none) n i tables
 
 abbrev μ-loop : tie.MeasureT-loop
-μ-loop n table tables₀ i₀ tables i = n - i
+μ-loop n form span table tables₀ i₀ tables i = n - i
 
 loop-holds : tie.Need-loop-holds Inv-loop μ-loop
 loop-holds c = search filled-start

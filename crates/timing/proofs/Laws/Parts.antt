@@ -9,7 +9,6 @@ use lib.ListN.{length, getD, take, drop, length-drop}
 use lib.Seq.{ext-getD, getD-take, getD-drop, length-take-le}
 use borrow.Rule.Slice.PartMut.{midOf, putMid, mid-len, put-same, post-is}
 use Rattle.sets.proofs.Laws.Bools.{lt-or-le}
-use Rattle.tree.specs.Tree.{flat}
 use Rattle.events.specs.declared.Event.{Event}
 use Rattle.state.specs.declared.State.{State}
 use Rattle.group.specs.Events.{event}
@@ -109,16 +108,16 @@ put-back a e xs ys zs l h ly lz outside inside = rw (before, middle, after) (put
 -- ---- a batch on parts
 
 -- A batch of c events is these events played.
-batch-plays : (numbers out : List ℕ) (s : State) (c : ℕ) → length numbers ≡ 3 * c → 3 * c ≤ length out
-    → (batch flat numbers out s .state ≡ played flat (eventIn numbers) c 0 s out .state) × (batch flat numbers out s .answers ≡ played flat (eventIn numbers) c 0 s out .answers)
-batch-plays numbers out s c e r =
+batch-plays : (anc : ℕ → ℕ) (numbers out : List ℕ) (s : State) (c : ℕ) → length numbers ≡ 3 * c → 3 * c ≤ length out
+    → (batch anc numbers out s .state ≡ played anc (eventIn numbers) c 0 s out .state) × (batch anc numbers out s .answers ≡ played anc (eventIn numbers) c 0 s out .answers)
+batch-plays anc numbers out s c e r =
     let even : length numbers % 3 ≡ 0 = omega arith in
     let many : length numbers / 3 ≡ c = omega arith in
-    let x = batch-taken numbers out (played flat (eventIn numbers) (length numbers / 3) 0 s out .answers) s (played flat (eventIn numbers) (length numbers / 3) 0 s out .state) even (omega arith) refl refl in
-    (sym (x .1 .0) ∙ ap (λ (i : ℕ). played flat (eventIn numbers) i 0 s out .state) many, sym (x .1 .1) ∙ ap (λ (i : ℕ). played flat (eventIn numbers) i 0 s out .answers) many)
+    let x = batch-taken anc numbers out (played anc (eventIn numbers) (length numbers / 3) 0 s out .answers) s (played anc (eventIn numbers) (length numbers / 3) 0 s out .state) even (omega arith) refl refl in
+    (sym (x .1 .0) ∙ ap (λ (i : ℕ). played anc (eventIn numbers) i 0 s out .state) many, sym (x .1 .1) ∙ ap (λ (i : ℕ). played anc (eventIn numbers) i 0 s out .answers) many)
 
 -- The events from place k to place e, on the two slices' parts.
-module _ (numbers out : List ℕ) (k e : ℕ) (s : State) (l : k ≤ e) (h : 3 * e ≤ length numbers) (g : 3 * e ≤ length out) where
+module _ (anc : ℕ → ℕ) (numbers out : List ℕ) (k e : ℕ) (s : State) (l : k ≤ e) (h : 3 * e ≤ length numbers) (g : 3 * e ≤ length out) where
   abbrev theirs : List ℕ
   theirs = midOf (3 * k) (3 * e - 3 * k) numbers
 
@@ -126,28 +125,28 @@ module _ (numbers out : List ℕ) (k e : ℕ) (s : State) (l : k ≤ e) (h : 3 *
   places = midOf (3 * k) (3 * e - 3 * k) out
 
   abbrev run : Run
-  run = played flat (eventIn numbers) (e - k) k s out
+  run = played anc (eventIn numbers) (e - k) k s out
 
   places-long : length places ≡ 3 * e - 3 * k
   places-long = mid-len (3 * k) (3 * e) out g
 
-  plays : (batch flat theirs places s .state ≡ played flat (eventIn theirs) (e - k) 0 s places .state) × (batch flat theirs places s .answers ≡ played flat (eventIn theirs) (e - k) 0 s places .answers)
+  plays : (batch anc theirs places s .state ≡ played anc (eventIn theirs) (e - k) 0 s places .state) × (batch anc theirs places s .answers ≡ played anc (eventIn theirs) (e - k) 0 s places .answers)
   plays =
       let m : length theirs ≡ 3 * (e - k) = mid-len (3 * k) (3 * e) numbers h ∙ (let z : 3 * e - 3 * k ≡ 3 * (e - k) = omega arith in z) in
-      batch-plays theirs places s (e - k) m (omega (arith, places-long))
+      batch-plays anc theirs places s (e - k) m (omega (arith, places-long))
 
-  part : PartOf k (3 * e - 3 * k) (played flat (eventIn theirs) (e - k) 0 s places) run
+  part : PartOf k (3 * e - 3 * k) (played anc (eventIn theirs) (e - k) 0 s places) run
   part =
       let z : k + 0 ≡ k = omega arith in
-      rw z at (part-of flat (eventIn theirs) (eventIn numbers) k (3 * e - 3 * k) (e - k) 0 s places out (λ j m. mid-reads k (3 * e - 3 * k) numbers j (omega arith)) (omega (arith, places-long)) (omega arith) (λ j m. mid-at (3 * k) (3 * e - 3 * k) out j (3 * k + j) m refl))
+      rw z at (part-of anc (eventIn theirs) (eventIn numbers) k (3 * e - 3 * k) (e - k) 0 s places out (λ j m. mid-reads k (3 * e - 3 * k) numbers j (omega arith)) (omega (arith, places-long)) (omega arith) (λ j m. mid-at (3 * k) (3 * e - 3 * k) out j (3 * k + j) m refl))
 
   -- Their batch, put back, is these events played on the slices.
-  pub part-played : (r : State) (v : List ℕ) → r ≡ batch flat theirs places s .state → v ≡ batch flat theirs places s .answers → (r ≡ run .state) × (putMid (3 * k) (3 * e - 3 * k) out v ≡ run .answers)
+  pub part-played : (r : State) (v : List ℕ) → r ≡ batch anc theirs places s .state → v ≡ batch anc theirs places s .answers → (r ≡ run .state) × (putMid (3 * k) (3 * e - 3 * k) out v ≡ run .answers)
   part-played r v er ev =
-      let same : v ≡ played flat (eventIn theirs) (e - k) 0 s places .answers = ev ∙ plays .1 in
-      let long : length v ≡ 3 * e - 3 * k = ap length same ∙ played-long flat (eventIn theirs) (e - k) 0 s places ∙ places-long in (
+      let same : v ≡ played anc (eventIn theirs) (e - k) 0 s places .answers = ev ∙ plays .1 in
+      let long : length v ≡ 3 * e - 3 * k = ap length same ∙ played-long anc (eventIn theirs) (e - k) 0 s places ∙ places-long in (
         er ∙ plays .0 ∙ part .same-state,
-        put-back (3 * k) (3 * e) out v (run .answers) (omega arith) g long (played-long flat (eventIn numbers) (e - k) k s out)
-            (λ i m. sym (played-keeps flat (eventIn numbers) (e - k) k s out i (⊎-elim (λ (x : i < 3 * k). inl x) (λ (x : 3 * e ≤ i). inr (omega arith)) m)))
+        put-back (3 * k) (3 * e) out v (run .answers) (omega arith) g long (played-long anc (eventIn numbers) (e - k) k s out)
+            (λ i m. sym (played-keeps anc (eventIn numbers) (e - k) k s out i (⊎-elim (λ (x : i < 3 * k). inl x) (λ (x : 3 * e ≤ i). inr (omega arith)) m)))
             (λ j m. ap (λ (x : List ℕ). getD x j 0) same ∙ part .same-numbers j m),
       )

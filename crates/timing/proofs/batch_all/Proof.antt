@@ -1,12 +1,13 @@
 -- `batch_all` meets its contract: what is still to come has the same end. Assumes nothing.
 use borrow.Author.Needs.{needs}
 use Prim.Native.Nat.{_-_}
+use Rattle.state.specs.States.{ownTree}
 use Rattle.timing.proofs.Laws.Stepping.{Stepping, stepping-start, stepping-many, stepping-end}
 use Rattle.timing.proofs.batch_all.Statement.{statement}
 use Rattle.timing.proofs.batch_all.Tie as tie
 
 abbrev Inv-loop : tie.InvT-loop
-Inv-loop size events total out₀ s₀ k₀ out s k = Stepping events total s₀ out₀ s out k
+Inv-loop size events total out₀ s₀ k₀ out s k = Stepping (ownTree s₀) events total s₀ out₀ s out k
 
 abbrev μ-loop : tie.MeasureT-loop
 μ-loop size events total out₀ s₀ k₀ out s k = total - k
@@ -58,13 +59,13 @@ loop-again c =
     let lent = c .before .before .before in
     let end = lent .before .before .before in
     let turn = end .before in
-    stepping-many _ _ _ _ _ _ _ _ _ _ (turn .before .loop .inv) (turn .before .before .before .before .pre .0) (end .handful-end .ensures .0) (end .handful-end .ensures .1) (lent .lend .ensures .1 .0) (lent .lend .ensures .1 .1)
+    stepping-many _ _ _ _ _ _ _ _ _ _ _ (turn .before .loop .inv) (turn .before .before .before .before .pre .0) (end .handful-end .ensures .0) (end .handful-end .ensures .1) (lent .lend .ensures .1 .0) (lent .lend .ensures .1 .1)
 
 same-length : tie.Need-same-length Inv-loop μ-loop
 same-length c = search needs
 
 returns : tie.Need-returns Inv-loop μ-loop
-returns c = stepping-end _ _ _ _ _ _ _ (c .before .loop .inv) (c .loop-test .left)
+returns c = stepping-end _ _ _ _ _ _ _ _ (c .before .loop .inv) (c .loop-test .left)
 
 pub batch-all-spec : {M : Type 1} → statement M
 batch-all-spec =

@@ -2,12 +2,13 @@
 use borrow.Author.Needs.{needs}
 use Prim.Native.Nat.{_-_}
 use native.Mathlib.Omega.{arith}
+use Rattle.state.specs.States.{ownTree}
 use Rattle.timing.proofs.Laws.Stepping.{Stepping, stepping-start, stepping-room, stepping-one, stepping-end}
 use Rattle.timing.proofs.step_all.Statement.{statement}
 use Rattle.timing.proofs.step_all.Tie as tie
 
 abbrev Inv-loop : tie.InvT-loop
-Inv-loop events total out₀ s₀ k₀ out s k = Stepping events total s₀ out₀ s out k
+Inv-loop events total out₀ s₀ k₀ out s k = Stepping (ownTree s₀) events total s₀ out₀ s out k
 
 abbrev μ-loop : tie.MeasureT-loop
 μ-loop events total out₀ s₀ k₀ out s k = total - k
@@ -36,13 +37,13 @@ loop-again c =
     let stepped = wrote .before .before .before in
     let read = stepped .before in
     let turn = read .before in
-    stepping-one _ _ _ _ _ _ _ _ _ _ (turn .before .loop .inv) (turn .loop-test .taken) (read .event-in .ensures) (stepped .event .ensures) (wrote .put-three .ensures)
+    stepping-one _ _ _ _ _ _ _ _ _ _ _ (turn .before .loop .inv) (turn .loop-test .taken) (read .event-in .ensures) (stepped .event .ensures) (wrote .put-three .ensures)
 
 same-length : tie.Need-same-length Inv-loop μ-loop
 same-length c = search needs
 
 returns : tie.Need-returns Inv-loop μ-loop
-returns c = stepping-end _ _ _ _ _ _ _ (c .before .loop .inv) (c .loop-test .left)
+returns c = stepping-end _ _ _ _ _ _ _ _ (c .before .loop .inv) (c .loop-test .left)
 
 pub step-all-spec : {M : Type 1} → statement M
 step-all-spec =

@@ -14,13 +14,13 @@ use borrow.Author.Tests.{eq-eqb, ne-eqb, lt-ltb, le-ltb, ltb-true}
 use Rattle.sets.specs.Sets.{none, has, count, smallest}
 use Rattle.sets.proofs.Laws.Bools.{clash, fails, eq-or-ne, lt-or-le, cond-true, cond-false}
 use Rattle.sets.proofs.Laws.Searches.{count-fewer, count-wide, count-le, count-add, Smallest, LeastOf, least, smallest-cases}
-use Rattle.tree.specs.Tree.{flat, parent, upwards, path, links, reached, IsRoot, digits}
+use Rattle.tree.specs.Tree.{ancestorCount, flat, parent, upwards, path, links, reached, IsRoot, digits}
 use Rattle.tree.specs.Relations.{Above, Ancestry}
 use Rattle.tree.proofs.Kin.{Rooted}
-use Rattle.tree.specs.Refusals.{accepted, badSize, badRank, tooShort}
+use Rattle.tree.specs.Refusals.{accepted, badSize, badRank, tooShort, badBox, badForm}
 use Rattle.tree.specs.Calls.{Told, told, climbing}
 use Rattle.tree.specs.declared.Climbed.{Climbed}
-use Rattle.tree.specs.declared.Climbed.the-variants.{Root, Short, WrongSize, WrongRank, FromMarked}
+use Rattle.tree.specs.declared.Climbed.the-variants.{Root, Short, WrongSize, WrongBox, WrongForm, WrongRank, FromMarked}
 use Rattle.tree.proofs.Laws.Flat.{flat-suc, flat-ancestry, flat-rooted}
 use Rattle.tree.proofs.Laws.Parents.{Free, Parent, nearest, lowest, nobody, parent-cases, parent-lt, parent-free, no-parent, has-parent}
 
@@ -128,11 +128,11 @@ module _ (anc : ℕ → ℕ) (tree : Ancestry anc) (rooted : Rooted anc) (marks 
       go rest r e (lowest l f b u) = omega (arith, links-link anc marks p r e (λ x. omega arith), links-root anc marks r (no-parent anc marks r b), fewer p 0 (rooted p (omega arith)))
       go rest r e (nobody b) = omega (arith, links-root anc marks p e)
 
-  pub links-bound : (p : ℕ) → p ≤ none → links anc marks p ≤ count (has (anc p)) p
+  pub links-bound : (p : ℕ) → p ≤ none → links anc marks p ≤ ancestorCount anc p
   unfolding size
   links-bound p s = bound p p (le-refl p) s
 
--- ---- a rank of the flat tree has no more ancestors than its number has binary digits
+-- ---- ancestors and binary digits
 
 flat-size : (p d : ℕ) → p < 2 ^ d → count (has (flat p)) p ≤ d
 flat-size = bin-ind (λ (p : ℕ). (d : ℕ) → p < 2 ^ d → count (has (flat p)) p ≤ d) (λ d h. omega (arith, count-le (has (flat 0)) 0)) step
@@ -166,9 +166,9 @@ digits-enough p = ltb-true p (2 ^ digits p) (digits-found p .passes)
 pub digits-least : (p d : ℕ) → p < 2 ^ d → digits p ≤ d
 digits-least p d l = ⊎-elim (λ (h : d < digits p). absurd (clash (ltb p (2 ^ d)) (lt-ltb p (2 ^ d) l) (digits-found p .first d h))) (λ (h : digits p ≤ d). h) (lt-or-le d (digits p))
 
--- From any rank the climb to the view's root takes no more links than the rank's number has binary digits, rank 0 counting as none.
-pub climb-within-digits : (marks p : ℕ) → p ≤ none → links flat marks p ≤ digits p
-climb-within-digits marks p s = le-trans (links-bound flat flat-ancestry flat-rooted marks p s) (flat-size p (digits p) (digits-enough p))
+-- A rank of the flat tree has no more ancestors than its number has binary digits, rank 0 counting as none.
+pub flat-within-digits : (p : ℕ) → ancestorCount flat p ≤ digits p
+flat-within-digits p = flat-size p (digits p) (digits-enough p)
 
 -- ---- the loop of a climb: after k links it stands at `at`, and what is left of the path is `at`'s own
 
@@ -222,13 +222,17 @@ back t =
     cond (eqb (t .number) accepted) (Root (t .rank) (t .climbed))
     (cond (eqb (t .number) tooShort) (Short (t .rank) (t .climbed))
     (cond (eqb (t .number) badSize) WrongSize
-    (cond (eqb (t .number) badRank) WrongRank (FromMarked (t .rank)))))
+    (cond (eqb (t .number) badBox) WrongBox
+    (cond (eqb (t .number) badForm) WrongForm
+    (cond (eqb (t .number) badRank) WrongRank (FromMarked (t .rank)))))))
 
 told-back : (a : Climbed) → back (told a) ≡ a
 unfolding told back
 told-back (Root r k) = refl
 told-back (Short r k) = refl
 told-back WrongSize = refl
+told-back WrongBox = refl
+told-back WrongForm = refl
 told-back WrongRank = refl
 told-back (FromMarked r) = refl
 

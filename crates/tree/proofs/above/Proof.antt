@@ -1,12 +1,23 @@
--- `tree::above` meets its contract. Assumes nothing.
+-- `tree::above` meets its contract: each form has its own rank next above. Assumes nothing.
 use borrow.Author.Needs.{needs}
-use Rattle.tree.specs.Tree.{half}
+use Rattle.tree.proofs.Laws.Forms.{form-star, form-nest, form-flat}
 use Rattle.tree.proofs.above.Statement.{statement}
 use Rattle.tree.proofs.above.Tie as tie
 
+in-star-requires : tie.Need-in-star-requires
+in-star-requires c κs = search needs
+
 returns : tie.Need-returns
-unfolding half
-returns c = search needs
+returns c = search form-star
+
+in-nest-requires : tie.Need-in-nest-requires
+in-nest-requires c κs = search needs
+
+returns-2 : tie.Need-returns-2
+returns-2 c = search form-nest
+
+returns-3 : tie.Need-returns-3
+returns-3 c = search form-flat
 
 pub above-spec : {M : Type 1} → statement M
-above-spec = tie.close (tie.spec returns)
+above-spec = tie.close (tie.spec in-star-requires returns in-nest-requires returns-2 returns-3)

@@ -1,23 +1,26 @@
 -- `tree::climb` meets its contract: at each return the tests on the way pick the definition's case. Assumes nothing.
 use borrow.Author.Needs.{needs}
-use Rattle.tree.proofs.Laws.Calls.{size-le, size-fits, rank-fits, rank-lt, climb-wrong-size, climb-wrong-rank, climb-from-marked, climb-unmarked}
+use Rattle.tree.proofs.Laws.Calls.{shape-le, box-pos, shape-fits, form-fits, box-fits, rank-fits, rank-lt, number-known, climb-misshapen, climb-wrong-rank, climb-from-marked, climb-unmarked}
 use Rattle.tree.proofs.climb.Statement.{statement}
 use Rattle.tree.proofs.climb.Tie as tie
 
-wrong-size-requires : tie.Need-wrong-size-requires
-wrong-size-requires c κs = search needs
+misshapen-requires : tie.Need-misshapen-requires
+misshapen-requires c κs = search needs
+
+not-climbed-requires : tie.Need-not-climbed-requires
+not-climbed-requires c κs = search number-known
 
 returns : tie.Need-returns
-returns c = search climb-wrong-size
+returns c = search climb-misshapen
 
 returns-2 : tie.Need-returns-2
 returns-2 c = search climb-wrong-rank
 
 cast-below : tie.Need-cast-below
-cast-below c = search size-fits
+cast-below c = search shape-fits
 
 below-requires : tie.Need-below-requires
-below-requires c κs = search size-le
+below-requires c κs = search shape-le
 
 meet-requires : tie.Need-meet-requires
 meet-requires c κs = search needs
@@ -31,8 +34,14 @@ member-requires c κs = search rank-lt
 returns-3 : tie.Need-returns-3
 returns-3 c = search climb-from-marked
 
+cast-climb-from : tie.Need-cast-climb-from
+cast-climb-from c = search form-fits
+
+cast-climb-from-2 : tie.Need-cast-climb-from-2
+cast-climb-from-2 c = search box-fits
+
 climb-from-requires : tie.Need-climb-from-requires
-climb-from-requires c κs = search rank-lt
+climb-from-requires c κs = (search box-pos, search rank-lt)
 
 returns-4 : tie.Need-returns-4
 returns-4 c = search climb-unmarked
@@ -41,7 +50,8 @@ pub climb-spec : {M : Type 1} → statement M
 climb-spec =
     tie.close
     (tie.spec
-    wrong-size-requires
+    misshapen-requires
+    not-climbed-requires
     returns
     returns-2
     cast-below
@@ -50,5 +60,7 @@ climb-spec =
     cast-from
     member-requires
     returns-3
+    cast-climb-from
+    cast-climb-from-2
     climb-from-requires
     returns-4)

@@ -3,19 +3,19 @@
 use Prim.Native.Nat.{_≤_}
 use native.Mathlib.Omega.{arith}
 use borrow.Author.Needs.{needs}
-use Rattle.tree.specs.Tree.{flat}
+use Rattle.tree.specs.Forms.{treeOf}
 use Rattle.tree.proofs.Laws.Climbing.{Climbing, climbing-start, climbing-step, climbing-less, climbing-root, climbing-short}
 use Rattle.tree.proofs.climb_from.Statement.{statement}
 use Rattle.tree.proofs.climb_from.Tie as tie
 
 abbrev Inv-loop : tie.InvT-loop
-Inv-loop marks p allowance at₀ links₀ at links = Climbing flat marks p links at × (links ≤ allowance)
+Inv-loop form span marks p allowance at₀ links₀ at links = Climbing (treeOf form span) marks p links at × (links ≤ allowance)
 
 abbrev μ-loop : tie.MeasureT-loop
-μ-loop marks p allowance at₀ links₀ at links = at
+μ-loop form span marks p allowance at₀ links₀ at links = at
 
 loop-holds : tie.Need-loop-holds Inv-loop μ-loop
-loop-holds c = (climbing-start flat (c .args .marks) (c .args .p), omega arith)
+loop-holds c = (climbing-start (treeOf (c .args .form) (c .args .span)) (c .args .marks) (c .args .p), omega arith)
 
 parent-of-requires : tie.Need-parent-of-requires Inv-loop μ-loop
 parent-of-requires c κs = search needs

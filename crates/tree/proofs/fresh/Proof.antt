@@ -2,16 +2,16 @@
 -- Assumes nothing.
 use Prim.Native.Nat.{_-_}
 use borrow.Author.Needs.{needs}
-use Rattle.tree.specs.Tree.{flat}
+use Rattle.tree.specs.Forms.{treeOf}
 use Rattle.tree.proofs.Laws.Mending.{Filling, filling-start, filling-put, filling-end}
 use Rattle.tree.proofs.fresh.Statement.{statement}
 use Rattle.tree.proofs.fresh.Tie as tie
 
 abbrev Inv-loop : tie.InvT-loop
-Inv-loop n marks table₀ p₀ table p = Filling flat n marks p table
+Inv-loop n form span marks table₀ p₀ table p = Filling (treeOf form span) n marks p table
 
 abbrev μ-loop : tie.MeasureT-loop
-μ-loop n marks table₀ p₀ table p = n - p
+μ-loop n form span marks table₀ p₀ table p = n - p
 
 loop-holds : tie.Need-loop-holds Inv-loop μ-loop
 loop-holds c = search filling-start

@@ -3,16 +3,16 @@
 use Prim.Native.Nat.{_≤_, _-_}
 use native.Mathlib.Omega.{arith}
 use borrow.Author.Needs.{needs}
-use Rattle.tree.specs.Tree.{flat}
+use Rattle.tree.specs.Forms.{treeOf}
 use Rattle.tree.proofs.Laws.Mending.{Below, below-start, below-step, below-known, below-end, below-few}
 use Rattle.tree.proofs.mend_below.Statement.{statement}
 use Rattle.tree.proofs.mend_below.Tie as tie
 
 abbrev Inv-loop : tie.InvT-loop
-Inv-loop n marks₀ table₀ q moved₀ k₀ marks table moved k = Below flat n marks₀ k marks table moved × (k ≤ q)
+Inv-loop n form span marks₀ table₀ q moved₀ k₀ marks table moved k = Below (treeOf form span) n marks₀ k marks table moved × (k ≤ q)
 
 abbrev μ-loop : tie.MeasureT-loop
-μ-loop n marks₀ table₀ q moved₀ k₀ marks table moved k = q - k
+μ-loop n form span marks₀ table₀ q moved₀ k₀ marks table moved k = q - k
 
 nobody-requires : tie.Need-nobody-requires Inv-loop μ-loop
 nobody-requires c κs = search needs

@@ -1,6 +1,6 @@
 -- `tree::relink` meets its contract: who had q for a parent has q's parent, or, where q had none, the lowest unmarked rank. Assumes nothing.
 use borrow.Author.Needs.{needs}
-use Rattle.tree.proofs.Laws.Flat.{flat-ancestry, flat-chained}
+use Rattle.tree.proofs.Laws.Forms.{form-ancestry, form-chained}
 use Rattle.tree.proofs.Laws.Mending.{relink-up, relink-low}
 use Rattle.tree.proofs.relink.Statement.{statement}
 use Rattle.tree.proofs.relink.Tie as tie
@@ -14,7 +14,7 @@ hand-over-requires c κs = search needs
 returns : tie.Need-returns
 returns c =
     let start = c .before .before in
-    relink-up _ flat-ancestry flat-chained _ _ _ _ _ _ (start .pre .0) (start .pre .1 .0) (start .pre .1 .1 .0) (start .pre .1 .1 .1) (c .before .if1 .taken) (c .hand-over .ensures)
+    relink-up _ (form-ancestry _ _) (form-chained _ _) _ _ _ _ _ _ (start .pre .0) (start .pre .1 .0) (start .pre .1 .1 .0) (start .pre .1 .1 .1) (c .before .if1 .taken) (c .hand-over .ensures)
 
 below-requires : tie.Need-below-requires
 below-requires c κs = search needs

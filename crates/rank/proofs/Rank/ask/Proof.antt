@@ -18,7 +18,13 @@ answer-requires : tie.Need-answer-requires
 answer-requires c κs = (search row-seen-below, search needs)
 
 settle-requires : tie.Need-settle-requires
-settle-requires c κs = (search (row-asked, row-seen-below), search (asked-awaits, seen-awaits))
+settle-requires c κs =
+    let answered = c .before in
+    let seen = answered .before in
+    let marked = seen .before .before .before .before in (
+      row-asked _ _ _ _ _ _ _ (row-seen-below _ _ _ _ _ _ _ _ (marked .before .pre .0) (marked .mend-below .ensures) (seen .view .ensures)) (answered .answer .ensures),
+      asked-awaits _ _ _ _ _ _ (seen-awaits _ _ _ _ _ _ (seen .view .ensures)) (answered .answer .ensures),
+    )
 
 returns : tie.Need-returns
 returns c = search ask-returns

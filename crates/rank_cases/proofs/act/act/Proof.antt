@@ -17,7 +17,7 @@ fresh-requires : tie.Need-fresh-requires
 fresh-requires c κs = search needs
 
 children-of-requires : tie.Need-children-of-requires
-children-of-requires c κs = search needs
+children-of-requires c κs = (search needs, (search needs, c .fresh .ensures))
 
 minus-requires : tie.Need-minus-requires
 minus-requires c κs = search needs
