@@ -10,6 +10,7 @@ use crate::workloads::Workload;
 use model::file::{read, MOST};
 use model::group::{Event, ROOM};
 use model::random::{schedule, Random};
+use model::tree::FLAT;
 
 /// What stands in the places of a slice that nobody is to write.
 const FOUND: u32 = 0xdead_beef;
@@ -34,8 +35,16 @@ pub fn agree(workload: &Workload, size: u32) -> Result<(), String> {
             return differs(program.name);
         }
     }
-    if left(wanted.1.len(), |out| linked::in_handfuls(workload.n, size, &workload.numbers, out)) != wanted {
+    if left(wanted.1.len(), |out| linked::in_handfuls(workload.n, workload.form, size, &workload.numbers, out)) != wanted {
         return differs(&format!("batches of {size}"));
+    }
+    Ok(())
+}
+
+/// The runs in every form, in one batch and in several.
+pub fn forms(kinds: &[[Race; 3]]) -> Result<(), String> {
+    for workload in kinds.iter().flatten().flat_map(|race| &race.schedules) {
+        agree(workload, 100).map_err(|why| format!("{why} in form {}", workload.form.number))?;
     }
     Ok(())
 }
@@ -45,8 +54,8 @@ pub fn refusals() -> Result<(), String> {
     for (numbers, places, wanted) in [(1, 0, 40), (4, 9, 40), (5, 0, 40), (3, 2, 41), (6, 5, 41), (0, 0, 0)] {
         let events = vec![1; numbers];
         let mut out = vec![FOUND; places];
-        let one = linked::one_by_one(3, &events, &mut out);
-        let many = linked::in_handfuls(3, 1, &events, &mut out);
+        let one = linked::one_by_one(3, FLAT, &events, &mut out);
+        let many = linked::in_handfuls(3, FLAT, 1, &events, &mut out);
         if (one, many) != (wanted, wanted) || out != vec![FOUND; places] {
             return Err(format!("{numbers} numbers and {places} places are answered {one} and {many}, not {wanted}"));
         }
@@ -107,7 +116,7 @@ fn with_room(name: &str, workload: &Workload, events: &[Event]) -> Option<Worklo
     let crowded: Vec<Event> = crowded.map(|(e, _)| *e).collect();
     let room = vec![Event { kind: 2, a: 0, b: 0 }; ROOM];
     let events: Vec<Event> = [events, &room, &crowded].concat().into_iter().take(MOST).collect();
-    if crowded.is_empty() { None } else { Some(Workload::new(name, workload.n, &events)) }
+    if crowded.is_empty() { None } else { Some(Workload::new(name, workload.n, FLAT, &events)) }
 }
 
 /// Random schedules of the model; only those that race have those that are refused as files. Gives how many events were compared.
@@ -122,7 +131,7 @@ pub fn schedules(seed: u64, count: usize) -> Result<usize, String> {
                 all_print(&name, &file, here)?;
             }
             Ok((n, played)) => {
-                let workload = Workload::new(&name, n, &played);
+                let workload = Workload::new(&name, n, FLAT, &played);
                 agree(&workload, size)?;
                 all_race(&workload)?;
                 with_room(&name, &workload, &played).map_or(Ok(()), |more| all_race(&more))?;
@@ -139,7 +148,7 @@ pub fn beyond_files(seed: u64) -> Result<(), String> {
     for n in [0, 1, 3, 64, 65, 256 + 3, u32::MAX] {
         let mut number = || random.pick(&[0, 1, 2, 3, 4, 5, 6, 256 + 1, u32::MAX]).expect("one of them");
         let events: Vec<Event> = (0..30).map(|_| Event { kind: number(), a: number(), b: number() }).collect();
-        let workload = Workload::new(&format!("random numbers for {n} ranks"), n, &events);
+        let workload = Workload::new(&format!("random numbers for {n} ranks"), n, FLAT, &events);
         for size in [0, 7, 30, u32::MAX] {
             agree(&workload, size)?;
         }

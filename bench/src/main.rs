@@ -52,18 +52,21 @@ fn race(races: &[Race], growth: &[Race], rounds: usize) {
 
 fn bench() -> Result<(), String> {
     let (rounds, schedules) = (argument(1, 21)?, argument(2, 3000)?);
-    let (mixed, races, growth) = (workloads::mixed(SEED, 64, 4096), races::races(), races::growth());
+    let (mixed, races, growth, forms) = (workloads::mixed(SEED, 64, 4096), races::races(), races::growth(), races::in_forms());
     compare::refusals()?;
     compare::beyond_files(SEED)?;
     compare::agree(&mixed, 100)?;
     compare::races(&races)?;
     compare::races(&growth)?;
+    compare::forms(&forms)?;
     let events = compare::schedules(SEED, schedules)?;
     println!("The same answers as the model's, and the same listings as agr's, on {schedules} random schedules, {events} events.\n");
     println!("Medians of {rounds} rounds, every program in each, of processor time. No program's slice of answers is cleared between");
     println!("calls; each call sets its group up anew.\n");
     batches(&mixed, rounds);
     race(&races, &growth, rounds);
+    println!("\nEach form beside the flat one, with boxes of eight: one batch, which starts the group too, ns an event.\n");
+    report::forms(&forms, rounds);
     Ok(())
 }
 

@@ -19,9 +19,9 @@ impl Program {
 
 /// The proved code: `event` called one after the other first, by which the others are measured.
 pub const PROGRAMS: [Program; 5] = [
-    Program { name: "event after event", run: |w, out| linked::one_by_one(w.n, &w.numbers, out), goal: None },
-    Program { name: "batches of 1", run: |w, out| linked::in_handfuls(w.n, 1, &w.numbers, out), goal: None },
-    Program { name: "batches of 16", run: |w, out| linked::in_handfuls(w.n, 16, &w.numbers, out), goal: None },
-    Program { name: "batches of 256", run: |w, out| linked::in_handfuls(w.n, 256, &w.numbers, out), goal: Some(10.0) },
-    Program { name: "batches of 4,096", run: |w, out| linked::in_handfuls(w.n, 4096, &w.numbers, out), goal: None },
+    Program { name: "event after event", run: |w, out| linked::one_by_one(w.n, w.form, &w.numbers, out), goal: None },
+    Program { name: "batches of 1", run: |w, out| linked::in_handfuls(w.n, w.form, 1, &w.numbers, out), goal: None },
+    Program { name: "batches of 16", run: |w, out| linked::in_handfuls(w.n, w.form, 16, &w.numbers, out), goal: None },
+    Program { name: "batches of 256", run: |w, out| linked::in_handfuls(w.n, w.form, 256, &w.numbers, out), goal: Some(10.0) },
+    Program { name: "batches of 4,096", run: |w, out| linked::in_handfuls(w.n, w.form, 4096, &w.numbers, out), goal: None },
 ];

@@ -5,6 +5,7 @@ use model::file::MOST;
 use model::group::{Event, Group};
 use model::random::{owed_notices, Random};
 use model::rank::Phase;
+use model::tree::{Form, FLAT};
 
 /// Schedules of one kind, run one after the other: a processor would learn a single one by heart.
 pub struct Race {
@@ -83,9 +84,9 @@ fn likely(random: &mut Random, g: &Group) -> Event {
     some.or_else(|| death(random, g, 2, 1)).expect("two ranks or more")
 }
 
-fn valid(seed: u64, n: u32, events: usize) -> Workload {
+fn valid(seed: u64, n: u32, form: Form, events: usize) -> Workload {
     let random = &mut Random::new(seed);
-    played("valid", n, events, |g| likely(random, g))
+    played("valid", n, form, events, |g| likely(random, g))
 }
 
 /// Any numbers, near the limits more often than not.
@@ -102,15 +103,15 @@ fn garbage(random: &mut Random, g: &Group) -> Event {
 /// Half of it garbage, most of which is refused.
 fn wild(seed: u64) -> Workload {
     let random = &mut Random::new(seed);
-    played("wild", 64, MOST, |g| if random.one_in(2) { garbage(random, g) } else { likely(random, g) })
+    played("wild", 64, FLAT, MOST, |g| if random.one_in(2) { garbage(random, g) } else { likely(random, g) })
 }
 
 /// Each death is told to every living rank before the next, until one rank is left: no run of 64 ranks has more newly known deaths. What is
 /// left of the events tells known deaths again, all along.
-fn notices(seed: u64) -> Workload {
+fn notices(seed: u64, form: Form) -> Workload {
     let random = &mut Random::new(seed);
     let (mut left, mut new) = (MOST as u32, 63 + 64 * 63 / 2);
-    played("notices", 64, MOST, |g| {
+    played("notices", 64, form, MOST, |g| {
         left -= 1;
         let told = if random.below(left + 1) < new { None } else { again(random, g) };
         told.unwrap_or_else(|| {
@@ -139,13 +140,13 @@ fn late(random: &mut Random, g: &Group) -> Event {
 
 fn calm(seed: u64) -> Workload {
     let random = &mut Random::new(seed);
-    played("calm", 64, MOST, |g| agreeing(g).unwrap_or_else(|| late(random, g)))
+    played("calm", 64, FLAT, MOST, |g| agreeing(g).unwrap_or_else(|| late(random, g)))
 }
 
 /// Something is always under way: when all is told and delivered, a rank dies, or two.
-fn busy(seed: u64) -> Workload {
+fn busy(seed: u64, form: Form) -> Workload {
     let (random, mut dying) = (&mut Random::new(seed), 0);
-    played("busy", 64, MOST, |g| {
+    played("busy", 64, form, MOST, |g| {
         let some = entry(random, g, false).or_else(|| if random.one_in(2) { news(random, g) } else { mail(random, g) });
         let some = some.or_else(|| mail(random, g)).or_else(|| news(random, g));
         if some.is_none() {
@@ -158,29 +159,37 @@ fn busy(seed: u64) -> Workload {
 }
 
 /// An agreement and nothing else: n ranks enter, and a message goes up and one down along each link.
-fn bare(n: u32) -> Workload {
-    played("bare", n, (n + 2 * (n - 1)) as usize, |g| agreeing(g).expect("an agreement under way"))
+fn bare(n: u32, form: Form) -> Workload {
+    played("bare", n, form, (n + 2 * (n - 1)) as usize, |g| agreeing(g).expect("an agreement under way"))
 }
 
 /// What the goals are for: five workloads of 64 ranks and the most events, and the bare agreement of 64 ranks and of 8.
 pub fn races() -> Vec<Race> {
     let five = [
-        Race::seeded(|seed| valid(seed, 64, MOST)),
+        Race::seeded(|seed| valid(seed, 64, FLAT, MOST)),
         Race::seeded(wild),
-        Race::seeded(notices),
+        Race::seeded(|seed| notices(seed, FLAT)),
         Race::seeded(calm),
-        Race::seeded(busy),
+        Race::seeded(|seed| busy(seed, FLAT)),
     ];
-    five.into_iter().chain([64, 8].map(|n| Race::new(vec![bare(n)]))).collect()
+    five.into_iter().chain([64, 8].map(|n| Race::new(vec![bare(n, FLAT)]))).collect()
 }
 
 /// How times grow with events, and with ranks.
 pub fn growth() -> Vec<Race> {
     let sizes = [(64, 512), (64, 1024), (64, 2048), (64, MOST), (32, MOST), (16, MOST), (8, MOST)];
-    sizes.into_iter().map(|(n, events)| Race::seeded(|seed| valid(seed, n, events))).collect()
+    sizes.into_iter().map(|(n, events)| Race::seeded(|seed| valid(seed, n, FLAT, events))).collect()
+}
+
+/// Runs of 64 ranks as they happen in each form, flat, star and nested, with boxes of eight.
+pub fn in_forms() -> Vec<[Race; 3]> {
+    let forms = [0, 1, 2].map(|number| Form { number, span: 8 });
+    let each = |make: fn(u64, Form) -> Workload| forms.map(|form| Race::seeded(|seed| make(seed, form)));
+    let bare = forms.map(|form| Race::new(vec![bare(64, form)]));
+    vec![each(|seed, form| valid(seed, 64, form, MOST)), each(notices), each(busy), bare]
 }
 
 /// No events at all.
 pub fn nothing() -> Race {
-    Race::new(vec![Workload::new("nothing", 64, &[])])
+    Race::new(vec![Workload::new("nothing", 64, FLAT, &[])])
 }

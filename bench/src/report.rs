@@ -1,6 +1,7 @@
 //! What is printed of the race: times, how they grow, whole programs, and what became of the goals.
 
 use crate::clock::{self, Call};
+use crate::linked;
 use crate::racers::Racer;
 use crate::races::Race;
 use crate::workloads::Workload;
@@ -40,6 +41,25 @@ pub fn table(racers: &[Racer], races: &[Race], rounds: usize) -> Vec<Times> {
         times
     };
     races.iter().map(line).collect()
+}
+
+/// Request 2026-09, a line for each kind of run: one batch of it in each form, nanoseconds an event, and the others beside the flat one.
+pub fn forms(kinds: &[[Race; 3]], rounds: usize) {
+    println!("{:<10}{:>6}{:>10}{:>9}{:>9}{:>9}{:>11}{:>13}", "", "ranks", "events", "flat", "star", "nested", "star/flat", "nested/flat");
+    for forms in kinds {
+        let places = forms.iter().flat_map(|race| &race.schedules).map(|w| w.wanted.len()).max().expect("a schedule");
+        let calls: Vec<Call> = forms.iter().map(|race| -> Call { Box::new(|out| race.schedules.iter().for_each(|w| _ = batch(w, out))) }).collect();
+        let events = |race: &Race| race.total(Workload::events) as f64;
+        let times: Times = clock::times(clock::of_thread, &calls, places, rounds).iter().zip(forms).map(|(time, race)| time / events(race)).collect();
+        let (race, [flat, star, nested]) = (&forms[0], [times[0], times[1], times[2]]);
+        let shown = format!("{} x {}", race.schedules.len(), race.schedules[0].events());
+        println!("{:<10}{:>6}{shown:>10}{flat:>9.1}{star:>9.1}{nested:>9.1}{:>11.2}{:>13.2}", race.name, race.n, star / flat, nested / flat);
+    }
+}
+
+/// All of a workload's events in one batch.
+pub fn batch(w: &Workload, out: &mut [u32]) -> u32 {
+    linked::in_handfuls(w.n, w.form, w.events() as u32, &w.numbers, out)
 }
 
 /// A line for each race, of whole programs on its first schedule: microseconds of a process.

@@ -1,15 +1,17 @@
-//! What is timed: a group's size and its events, with the answers that the model has.
+//! What is timed: a group's size, its form and its events, with the answers that the model has.
 
 use model::file::write;
 use model::group::{Event, Group};
 use model::random::Random;
+use model::tree::{misshapen, Form, FLAT};
 
 pub struct Workload {
     pub name: String,
     pub n: u32,
+    pub form: Form,
     /// Three an event: kind, a, b.
     pub numbers: Vec<u32>,
-    /// The same as a schedule file; no bytes where no file can hold it.
+    /// The same as a schedule file, which means the flat form; no bytes where no file can hold it.
     pub file: Vec<u8>,
     /// Three an event: answer, sent, how many ranks moved.
     pub wanted: Vec<u32>,
@@ -18,12 +20,12 @@ pub struct Workload {
 }
 
 impl Workload {
-    pub fn new(name: &str, n: u32, events: &[Event]) -> Workload {
+    pub fn new(name: &str, n: u32, form: Form, events: &[Event]) -> Workload {
         let numbers = events.iter().flat_map(|e| [e.kind, e.a, e.b]).collect();
         let fits = (1..=64).contains(&n) && events.iter().all(|e| e.kind < 256);
         let file = if fits { write(n as u8, events) } else { Vec::new() };
-        let (wanted, known) = wanted(n, events);
-        Workload { name: name.to_string(), n, numbers, file, wanted, known }
+        let (wanted, known) = wanted(n, form, events);
+        Workload { name: name.to_string(), n, form, numbers, file, wanted, known }
     }
 
     pub fn events(&self) -> usize {
@@ -35,27 +37,27 @@ impl Workload {
     }
 }
 
-/// What must be written of each event, and how many marks there are in the end. A group of a wrong size refuses every event with 1.
-fn wanted(n: u32, events: &[Event]) -> (Vec<u32>, usize) {
-    if !(1..=64).contains(&n) {
+/// What must be written of each event, and how many marks there are in the end. A group that did not start refuses every event with 1.
+fn wanted(n: u32, form: Form, events: &[Event]) -> (Vec<u32>, usize) {
+    if misshapen(n, form).is_some() {
         return ([1, 0, 0].repeat(events.len()), 0);
     }
-    let mut group = Group::start(n);
+    let mut group = Group::start(n, form);
     let answers = events.iter().map(|e| group.event(*e));
     let wanted = answers.flat_map(|a| [a.number, a.sent, a.moved.count]).collect();
     (wanted, group.ranks.iter().map(|r| r.marks.len()).sum())
 }
 
-/// So many events for n ranks, each chosen where the group stands.
-pub fn played(name: &str, n: u32, events: usize, mut next: impl FnMut(&Group) -> Event) -> Workload {
-    let mut group = Group::start(n);
+/// So many events for n ranks in a form, each chosen where the group stands.
+pub fn played(name: &str, n: u32, form: Form, events: usize, mut next: impl FnMut(&Group) -> Event) -> Workload {
+    let mut group = Group::start(n, form);
     let mut played = Vec::new();
     while played.len() < events {
         let e = next(&group);
         group.event(e);
         played.push(e);
     }
-    Workload::new(name, n, &played)
+    Workload::new(name, n, form, &played)
 }
 
 /// Mostly an event that may happen now, however late it is: known deaths are told again, and few ranks die.
@@ -74,5 +76,5 @@ fn any(random: &mut Random, g: &Group) -> Event {
 /// Random events for n ranks.
 pub fn mixed(seed: u64, n: u32, events: usize) -> Workload {
     let random = &mut Random::new(seed);
-    played("mixed", n, events, |g| any(random, g))
+    played("mixed", n, FLAT, events, |g| any(random, g))
 }
