@@ -15,7 +15,8 @@ use Rattle.sets.proofs.Laws.Members.{has-zero, minus-not}
 use Rattle.sets.proofs.Laws.Searches.{every-at, every-i}
 use Rattle.sets.specs.Sets.{has, only, union, meet, minus, add, below, setOf, count, largest, smallest, listed, every, all}
 use Rattle.tree.proofs.Laws.Rows.{same-eq}
-use Rattle.tree.specs.Calls.{andThen, movedBelow, wrongSize, misshapen, same}
+use Rattle.tree.specs.Calls.{andThen, movedBelow, wrongSize, same}
+use Rattle.calls.specs.Calls.{misshapen}
 use Rattle.tree.specs.Tree.{lineage, ancestors, half, flat, parent, children, row, entry, fresh, moves, sized, moved}
 use Rattle.tree.specs.Forms.{flatForm}
 use Rattle.rank.specs.Records.{becoming, combining, concluding, owing, admitting, proposal, parentOf, childrenOf, awaiting, freshRank, hearing, viewing}

@@ -2,8 +2,9 @@
 use mathlib.Core.Path.{_≡_, refl}
 use mathlib.Core.Bool.{true}
 use Rattle.sets.specs.Sets.{has, only, union, meet, minus, add, below, setOf, count, largest, smallest, listed, every, all}
-use Rattle.tree.specs.Calls.{mended, andThen, movedBelow, mendedBelow, wrongSize, misshapen, same, wrongView, markRefused, marked, climbing, climbed}
-use Rattle.tree.specs.Examples.{tallies, tells}
+use Rattle.tree.specs.Calls.{mended, andThen, movedBelow, mendedBelow, wrongSize, same}
+use Rattle.calls.specs.Calls.{misshapen, wrongView, markRefused, marked, climbing, climbed}
+use Rattle.calls.specs.Examples.{tallies, tells}
 use Rattle.tree.specs.Tree.{lineage, ancestors, half, parent, children, row, entry, fresh, moves, sized, moved, upwards, path, links, reached}
 use Rattle.tree.specs.Forms.{headOf, placeOf, headAbove, inStar, inNest, aboveIn, treeOf}
 use Rattle.rank.specs.Records.{becoming, combining, concluding, owing, admitting, proposal, parentOf, childrenOf, awaiting, freshRank, hearing, viewing}

@@ -11,11 +11,12 @@ use lib.ListN.{getD}
 use Rattle.sets.specs.Sets.{has, add, union, below, count}
 use Rattle.tree.specs.Tree.{ancestorCount, fresh, endedAt, links, reached, IsRoot, digits}
 use Rattle.tree.specs.Forms.{flatForm, treeOf}
-use Rattle.tree.specs.Calls.{Told, climbed}
+use Rattle.calls.specs.Calls.{Told, climbed}
 use Rattle.tree.proofs.Laws.Mending.{moved-size}
 use Rattle.tree.proofs.Laws.Forms.{form-ancestry, form-rooted, flat-form}
 use Rattle.tree.proofs.Laws.Climbing.{links-bound, path-ends, one-root, digits-enough, digits-least, flat-within-digits}
-use Rattle.tree.proofs.Laws.Calls.{Shapely, climb-whole}
+use Rattle.calls.proofs.Laws.Shapes.{Shapely}
+use Rattle.calls.proofs.Laws.Calls.{climb-whole}
 use Rattle.rank.specs.Words.{ask}
 use Rattle.rank.specs.Records.{awaiting}
 use Rattle.events.specs.declared.Event.{Event}

@@ -4,9 +4,10 @@ use mathlib.Core.Bool.{true}
 use Rattle.sets.specs.Sets.{has, only, union, meet, minus, add, below, setOf, count, largest, smallest, listed, every, all}
 use Rattle.tree.specs.Tree.{lineage, ancestors, half, flat, parent, children, row, entry, fresh, moves, sized, moved, upwards, path, links, reached}
 use Rattle.tree.specs.Forms.{headOf, placeOf, headAbove, inStar, inNest, aboveIn, treeOf}
-use Rattle.tree.specs.Calls.{same, wrongSize, misshapen, wrongView, markRefused, marked, climbing, climbed}
-use Rattle.tree.specs.Examples.{parents8, tallies, gives, tells, after1, after0, after01, after012, again}
-use Rattle.tree.specs.Examples as Tree
+use Rattle.tree.specs.Calls.{same, wrongSize}
+use Rattle.calls.specs.Calls.{misshapen, wrongView, markRefused, marked, climbing, climbed}
+use Rattle.calls.specs.Examples.{parents8, tallies, gives, tells, after1, after0, after01, after012, again}
+use Rattle.calls.specs.Examples as Tree
 use Rattle.rank.specs.Triples.{freshTriple, combine, closing}
 use Rattle.rank.specs.Records.{becoming, combining, concluding, proposal, parentOf, childrenOf, awaiting, freshRank}
 use Rattle.rank.specs.Sends.{silent, reports, tells as tellsAll, letter, letters}

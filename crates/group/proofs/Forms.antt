@@ -7,9 +7,11 @@ use lib.Dec.{eqb}
 use Rattle.tree.specs.Tree.{flat}
 use Rattle.tree.specs.Forms.{treeOf, flatForm}
 use Rattle.tree.specs.Refusals.{accepted}
-use Rattle.tree.specs.Calls.{wrongSize, misshapen}
+use Rattle.tree.specs.Calls.{wrongSize}
+use Rattle.calls.specs.Calls.{misshapen}
 use Rattle.tree.proofs.Laws.Forms.{flat-form}
-use Rattle.tree.proofs.Laws.Calls.{Shapely, shapely, shape-right, both-right, size-pos, size-le, size-right}
+use Rattle.tree.proofs.Laws.Calls.{size-pos, size-le, size-right}
+use Rattle.calls.proofs.Laws.Shapes.{Shapely, shapely, shape-right, both-right}
 use Rattle.rank.specs.Sends.{size}
 use Rattle.events.specs.declared.Event.{Event}
 use Rattle.plans.specs.declared.Plan.{Plan}
@@ -65,6 +67,10 @@ the-calls-run-in-their-form n form span s (goes s′ ev run z) =
     let e = own-tree n form span s′ run in
     subst (λ (anc : ℕ → ℕ). Reaches (treeOf form span) n (event anc s′ ev .state)) (sym e)
     (next s′ ev (the-calls-run-in-their-form n form span s′ run) (subst (λ (anc : ℕ → ℕ). event anc s′ ev .answer ≡ 0) e z))
+
+-- It is one along its own state's sets, so demand 3 holds of it in its form (`Demands`).
+pub the-calls-run-in-their-own : (n form span : ℕ) (s : State) → Runs n form span s → Reaches (ownTree s) n s
+the-calls-run-in-their-own n form span s run = subst (λ (anc : ℕ → ℕ). Reaches anc n s) (sym (own-tree n form span s run)) (the-calls-run-in-their-form n form span s run)
 
 -- ---- the flat form ignores box size
 

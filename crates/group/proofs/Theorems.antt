@@ -4,16 +4,17 @@ use mathlib.Core.Path.{_≡_, refl, sym, ap, subst, _∙_}
 use mathlib.Core.Bool.{true, false, cond, _||_}
 use mathlib.Core.List.{_++_}
 use mathlib.Core.Logic.{inr}
-use Prim.Native.Nat.{ℕ, _≤_, _<_}
+use Prim.Native.Nat.{ℕ}
 use native.Mathlib.Omega.{arith}
 use lib.Dec.{eqb}
 use lib.ListN.{length}
 use Rattle.sets.specs.Sets.{has, add}
 use Rattle.sets.proofs.Laws.Bools.{clash}
 use Rattle.tree.specs.Tree.{moved, nobody}
-use Rattle.tree.specs.Calls.{misshapen, movedBelow}
+use Rattle.tree.specs.Calls.{movedBelow}
+use Rattle.calls.specs.Calls.{misshapen}
 use Rattle.tree.specs.Relations.{Ancestry}
-use Rattle.tree.proofs.Laws.Calls.{shapely}
+use Rattle.calls.proofs.Laws.Shapes.{shapely}
 use Rattle.rank.specs.declared.Acted.{Acted}
 use Rattle.rank.specs.Words.{ask}
 use Rattle.rank.specs.Records.{admitting}

@@ -4,12 +4,13 @@ use Prim.Native.Nat.{ℕ}
 use mathlib.Core.Bool.{Bool, _&&_}
 use mathlib.Core.List.{List, [], _∷_, _++_}
 use lib.Dec.{eqb}
-use lib.ListN.{length, replicate}
+use lib.ListN.{replicate}
 use Rattle.tree.specs.Tree.{fresh}
 use Rattle.tree.specs.Forms.{flatForm, starForm, nestedForm, treeOf}
-use Rattle.tree.specs.Calls.{same, marked, climbed}
-use Rattle.tree.specs.Examples.{tallies, tells}
-use Rattle.tree.specs.declared.Marked.{Marked}
+use Rattle.tree.specs.Calls.{same}
+use Rattle.calls.specs.Calls.{marked, climbed}
+use Rattle.calls.specs.Examples.{tallies, tells}
+use Rattle.calls.specs.declared.Marked.{Marked}
 use Rattle.rank.specs.Words.{decided}
 use Rattle.events.specs.Events.{eventOf}
 use Rattle.state.specs.declared.State.{State}

@@ -5,7 +5,7 @@ use mathlib.Core.List.{List, [], _∷_, _++_}
 use lib.Dec.{eqb}
 use Rattle.tree.specs.Tree.{flat}
 use Rattle.tree.specs.Forms.{flatForm}
-use Rattle.tree.specs.Examples as Tree
+use Rattle.calls.specs.Examples as Tree
 use Rattle.rank.specs.Words.{decided}
 use Rattle.events.specs.Events.{eventOf}
 use Rattle.state.specs.States.{rankAt}

@@ -9,7 +9,6 @@ use lib.ListN.{length, take}
 use lib.Seq.{take-all}
 use borrow.Author.Tests.{eq-eqb, ne-eqb}
 use Rattle.sets.proofs.Laws.Bools.{eq-or-ne, lt-or-le}
-use Rattle.tree.specs.Tree.{flat}
 use Rattle.state.specs.declared.State.{State}
 use Rattle.files.specs.Files.{longest, eventsIn}
 use Rattle.schedule.specs.Runs.{run}

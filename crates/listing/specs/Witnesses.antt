@@ -9,7 +9,7 @@ use Rattle.sets.specs.Sets.{has}
 use Rattle.tree.specs.Tree.{flat}
 use Rattle.tree.specs.Forms.{flatForm}
 use Rattle.tree.specs.Calls.{same}
-use Rattle.tree.specs.Examples.{tallies}
+use Rattle.calls.specs.Examples.{tallies}
 use Rattle.rank.specs.declared.Rank.{Rank}
 use Rattle.rank.specs.Triples.{zeroTriple}
 use Rattle.net.specs.Net.{inFlight}

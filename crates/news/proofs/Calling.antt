@@ -9,10 +9,11 @@ use Rattle.sets.specs.Sets.{add}
 use Rattle.sets.proofs.Laws.Bools.{eq-or-ne}
 use Rattle.sets.proofs.Laws.Members.{add-swap, add-twice}
 use Rattle.tree.specs.Forms.{nestedForm, treeOf}
-use Rattle.tree.specs.Calls.{wrongSize, marked}
-use Rattle.tree.specs.declared.Marked.{Marked}
+use Rattle.tree.specs.Calls.{wrongSize}
+use Rattle.calls.specs.Calls.{marked}
+use Rattle.calls.specs.declared.Marked.{Marked}
 use Rattle.tree.proofs.Laws.Calls.{size-pos, size-le, size-right}
-use Rattle.tree.proofs.Laws.Marks.{Markable, markable-accepted, accepted-markable, refused-keeps}
+use Rattle.calls.proofs.Laws.Marks.{Markable, markable-accepted, accepted-markable, refused-keeps}
 use Rattle.news.specs.News.{Held, Same, Shows, HeldInOrder, InAnyOrder, calls, inMarked}
 use Rattle.news.proofs.Orders.{same-shown, next-in-order, set-shown}
 

@@ -9,9 +9,10 @@ use Rattle.sets.specs.Sets.{has, union, below, listed}
 use Rattle.tree.specs.Refusals.{accepted}
 use Rattle.tree.specs.Tree.{fresh}
 use Rattle.tree.specs.Forms.{nestedForm, treeOf}
-use Rattle.tree.specs.Calls.{mended, wrongSize, marked}
+use Rattle.tree.specs.Calls.{mended, wrongSize}
+use Rattle.calls.specs.Calls.{marked}
 use Rattle.tree.specs.declared.Mended.{Mended}
-use Rattle.tree.specs.declared.Marked.{Marked}
+use Rattle.calls.specs.declared.Marked.{Marked}
 use Rattle.rank.specs.declared.Acted.{Acted}
 use Rattle.rank.specs.Words.{ask}
 use Rattle.rank.specs.Rules.{takingAsk, noticing}

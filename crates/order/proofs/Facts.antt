@@ -4,7 +4,7 @@ use mathlib.Core.Path.{_≡_}
 use mathlib.Core.Bool.{true}
 use lib.ListN.{replicate}
 use Rattle.sets.specs.Sets.{none, has, minus, below}
-use Rattle.tree.proofs.Laws.Calls.{Shapely}
+use Rattle.calls.proofs.Laws.Shapes.{Shapely}
 use Rattle.rank.proofs.Facts.{MemberInOrder}
 use Rattle.net.specs.Net.{inFlight, zeroMessage}
 use Rattle.net.proofs.Facts.{MessageInOrder}

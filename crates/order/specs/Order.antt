@@ -7,7 +7,8 @@ use lib.ListN.{replicate}
 use Rattle.sets.specs.Sets.{none, has, minus, below, every, all}
 use Rattle.tree.specs.Tree.{fresh}
 use Rattle.tree.specs.Refusals.{accepted}
-use Rattle.tree.specs.Calls.{misshapen, same}
+use Rattle.tree.specs.Calls.{same}
+use Rattle.calls.specs.Calls.{misshapen}
 use Rattle.rank.specs.declared.Rank.{Rank}
 use Rattle.rank.specs.declared.Message.{Message}
 use Rattle.rank.specs.declared.Triple.{Triple}

@@ -15,7 +15,7 @@ ghost use Prim.Native.Nat.{_<_, _≤_};
 ghost use lib.ListN.{getD, length};
 ghost use Rattle.sets.specs.Sets.{every};
 ghost use Rattle.tree.specs.Forms.{treeOf};
-ghost use Rattle.tree.specs.Calls.{misshapen};
+ghost use Rattle.calls.specs.Calls.{misshapen};
 ghost use Rattle.net.specs.Net.{zeroMessage};
 ghost use Rattle.state.specs.States.{ownTree, zeroRank};
 ghost use Rattle.order.specs.Order.{inOrder, isWithin, isZero, memberInOrder, messageInOrder, placeInOrder, proper, rankInOrder, seatInOrder, strangerInOrder, tripleWithin, zeroPlace, zeroRecord};
@@ -247,7 +247,7 @@ pub fn in_order(s: State) -> bool
     ensures { λ t. ⌜ (t ≡ true → Shaped s) ⌝ }
 {
     let g = s.group;
-    if tree::misshapen(g.n as u32, g.form as u32, g.span as u32) != 0 {
+    if calls::misshapen(g.n as u32, g.form as u32, g.span as u32) != 0 {
         return false;
     }
     all_in_order(s)

@@ -8,7 +8,7 @@ use Rattle.tree.specs.Tree.{flat}
 use Rattle.tree.specs.Forms.{flatForm}
 use Rattle.state.specs.declared.State.{State}
 use Rattle.state.specs.Starting.{freshState, started}
-use Rattle.tree.proofs.Laws.Calls.{flat-shapely, shape-right}
+use Rattle.calls.proofs.Laws.Shapes.{flat-shapely, shape-right}
 use Rattle.state.proofs.Laws.Starting.{started-small}
 use Rattle.group.specs.Events.{event}
 use Rattle.group.specs.Reaching.{Reaches, begun}

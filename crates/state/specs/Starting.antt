@@ -8,7 +8,7 @@ use lib.ListN.{replicate}
 use Rattle.sets.specs.Sets.{none}
 use Rattle.tree.specs.Refusals.{accepted}
 use Rattle.tree.specs.Tree.{row, fresh}
-use Rattle.tree.specs.Calls.{misshapen}
+use Rattle.calls.specs.Calls.{misshapen}
 use Rattle.rank.specs.declared.Rank.{Rank}
 use Rattle.rank.specs.Records.{freshRank}
 use Rattle.net.specs.Net.{inFlight, zeroMessage}

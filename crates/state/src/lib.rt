@@ -6,7 +6,7 @@ ghost use mathlib.Core.Path.{_≡_};
 ghost use Prim.Native.Nat.{_≤_};
 ghost use Rattle.tree.specs.Tree.{fresh, row};
 ghost use Rattle.tree.specs.Forms.{treeOf};
-ghost use Rattle.tree.specs.Calls.{misshapen};
+ghost use Rattle.calls.specs.Calls.{misshapen};
 ghost use Rattle.state.specs.States.{joined, zeroRank};
 ghost use Rattle.state.specs.Starting.{emptyState, firstRank, firstRow, freshState, started};
 
@@ -131,7 +131,7 @@ fn fresh_state(n: u8, form: u8, span: u8) -> State
 pub fn start(n: u32, form: u32, span: u32) -> Started
     ensures { λ r. ⌜ r ≡ started (treeOf form span) n form span ⌝ }
 {
-    let answer = tree::misshapen(n, form, span);
+    let answer = calls::misshapen(n, form, span);
     if answer != 0 {
         return Started {
             answer,

@@ -7,9 +7,6 @@ use contract.Lifetimes.{Lfts}
 use Rattle.sets.proofs.Laws.Alike.{alike}
 use Rattle.tree.specs.declared.Moved.{Moved}
 use Rattle.tree.specs.declared.Mended.{Mended}
-use Rattle.tree.specs.declared.Marked.{Marked}
-use Rattle.tree.specs.declared.Climbed.{Climbed}
-use Rattle.tree.proofs.Laws.Climbing.{told-determines}
 use Rattle.tree.proofs.Moved.nobody.Reads as nobody
 use Rattle.tree.proofs.parent_of.Reads as parent-of
 use Rattle.tree.proofs.fresh.Reads as fresh
@@ -19,10 +16,7 @@ use Rattle.tree.proofs.mend.Reads as mend
 use Rattle.tree.proofs.gained.Reads as gained
 use Rattle.tree.proofs.mend_below.Reads as mend-below
 use Rattle.tree.proofs.wrong_size.Reads as wrong-size
-use Rattle.tree.proofs.misshapen.Reads as misshapen
 use Rattle.tree.proofs.same.Reads as same
-use Rattle.tree.proofs.mark.Reads as mark
-use Rattle.tree.proofs.climb.Reads as climb
 
 pub nobody-determined : (κs : Lfts 0) (a : _) (t u : Moved) (x y : _) → nobody.Post κs a t x → nobody.Post κs a u y → t ≡ u
 nobody-determined κs a t u x y e f = alike e f
@@ -51,21 +45,5 @@ mend-below-determined κs a t u x y e f = alike e f
 pub wrong-size-determined : (κs : Lfts 0) (a : _) (t u : Bool) (x y : _) → wrong-size.Post κs a t x → wrong-size.Post κs a u y → t ≡ u
 wrong-size-determined κs a t u x y e f = alike e f
 
-pub misshapen-determined : (κs : Lfts 0) (a : _) (t u : ℕ) (x y : _) → misshapen.Post κs a t x → misshapen.Post κs a u y → t ≡ u
-misshapen-determined κs a t u x y e f = alike e f
-
 pub same-determined : (κs : Lfts 0) (a : _) (t u : Bool) (x y : _) → same.Post κs a t x → same.Post κs a u y → t ≡ u
 same-determined κs a t u x y e f = alike e f
-
-pub mark-determined : (κs : Lfts 0) (a : _) (t u : Marked) (x y : _) → mark.Post κs a t x → mark.Post κs a u y → t ≡ u
-mark-determined κs a t u x y e f = alike e f
-
-pub climb-determined : (κs : Lfts 0) (a : _) (t u : Climbed) (x y : _) → climb.Post κs a t x → climb.Post κs a u y → t ≡ u
-climb-determined κs a t u x y e f = told-determines t u (alike e f)
-
--- The entry points ask nothing of their callers.
-pub mark-asks-nothing : (κs : Lfts 0) (a : _) → mark.Pre κs a
-mark-asks-nothing κs a = tt
-
-pub climb-asks-nothing : (κs : Lfts 0) (a : _) → climb.Pre κs a
-climb-asks-nothing κs a = tt

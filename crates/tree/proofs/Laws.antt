@@ -11,4 +11,3 @@ pub mod Mending
 pub mod Gaining
 pub mod Climbing
 pub mod Calls
-pub mod Marks

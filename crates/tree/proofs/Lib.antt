@@ -1,6 +1,3 @@
 pub mod Kin
 pub mod Laws
-pub mod Examples
-pub mod Cases
 pub mod Determined
-pub mod Marking

@@ -3,5 +3,3 @@ pub mod Tree
 pub mod Forms
 pub mod Relations
 pub mod Calls
-pub mod Examples
-pub mod Cases

@@ -1,8 +1,8 @@
 // What a case prints: `climb NUMBER RANK LINKS`, `mark NUMBER MARKS COUNT T0 .. T63`, or for a mark asked who moved `who NUMBER COUNT RANKS`.
 use super::script::Reader;
+use calls::Climbed;
+use calls::Marked;
 use libc::STDOUT_FILENO;
-use tree::Climbed;
-use tree::Marked;
 
 fn text(bytes: &[u8]) {
     io::write_all(STDOUT_FILENO, bytes);
@@ -48,7 +48,7 @@ fn told(c: Climbed) {
 }
 
 fn climb(numbers: [u64; 69]) {
-    told(tree::climb(
+    told(calls::climb(
         small(numbers, 0),
         small(numbers, 1),
         small(numbers, 2),
@@ -82,7 +82,7 @@ fn entries(table: [u8; 64]) {
 }
 
 fn mark(numbers: [u64; 69]) -> Marked {
-    tree::mark(
+    calls::mark(
         small(numbers, 0),
         small(numbers, 1),
         small(numbers, 2),

@@ -12,7 +12,7 @@ use Rattle.sets.specs.Sets.{has}
 use Rattle.sets.proofs.Laws.Bools.{eq-or-ne}
 use Rattle.state.specs.declared.State.{State}
 use Rattle.state.specs.States.{rankAt}
-use Rattle.text.specs.Text.{Wrote, lines}
+use Rattle.text.specs.Text.{Wrote}
 use Rattle.text.proofs.Laws.Writing.{wrote-nothing, wrote-kept}
 use Rattle.text.proofs.Laws.Lines.{length-lines}
 use Rattle.schedule.specs.Runs.{run}

@@ -1,8 +1,8 @@
 -- The states that a group can be in are in order: from an accepted start, by accepted events. Over any ancestor sets. Assumes nothing.
-use mathlib.Core.Path.{_≡_, refl, sym, ap, subst, _∙_}
+use mathlib.Core.Path.{_≡_, sym, ap, subst, _∙_}
 use Prim.Native.Nat.{ℕ, _≤_, _<_}
 use native.Mathlib.Omega.{arith}
-use Rattle.tree.proofs.Laws.Calls.{shapely}
+use Rattle.calls.proofs.Laws.Shapes.{shapely}
 use Rattle.rank.proofs.Facts.{MemberInOrder}
 use Rattle.state.specs.declared.State.{State}
 use Rattle.state.specs.States.{rankAt, rowAt}

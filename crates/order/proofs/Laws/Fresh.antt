@@ -8,7 +8,7 @@ use Rattle.sets.specs.Sets.{has, minus, below}
 use Rattle.sets.proofs.Laws.Bools.{clash}
 use Rattle.sets.proofs.Laws.Members.{has-zero, has-below-lt, minus-i}
 use Rattle.tree.specs.Tree.{fresh}
-use Rattle.tree.proofs.Laws.Calls.{Shapely}
+use Rattle.calls.proofs.Laws.Shapes.{Shapely}
 use Rattle.rank.specs.Records.{freshRank}
 use Rattle.rank.proofs.Laws.Keeping.{fresh-rank-in-order, fresh-marks}
 use Rattle.rank.proofs.Facts.{MemberInOrder}

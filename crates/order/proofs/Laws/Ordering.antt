@@ -1,5 +1,5 @@
 -- The tests of "in order" and the facts that they stand for, both ways. Assumes nothing.
-use mathlib.Core.Path.{_≡_, refl, sym, ap, subst, _∙_}
+use mathlib.Core.Path.{_≡_, sym, ap, subst, _∙_}
 use mathlib.Core.Bool.{Bool, true, false, not, _&&_, _||_}
 use mathlib.Core.List.{List, [], _∷_}
 use mathlib.Core.Logic.{_⊎_, inl, inr, ⊎-elim}
@@ -13,9 +13,10 @@ use Rattle.sets.specs.Sets.{none, minus, below, every, all}
 use Rattle.sets.proofs.Laws.Bools.{and-assoc, and-true, eq-or-ne, and-i, and-l, and-r, not-i, fails, lt-or-le, cond-true, cond-false, all-head, all-tail, all-nil, all-step, all-cons, means, meant}
 use Rattle.sets.proofs.Laws.Members.{has-below-lt}
 use Rattle.sets.proofs.Laws.Searches.{every-at, every-i, every-not}
-use Rattle.tree.specs.Calls.{misshapen, same}
+use Rattle.tree.specs.Calls.{same}
+use Rattle.calls.specs.Calls.{misshapen}
 use Rattle.tree.proofs.Laws.Rows.{same-eq, same-refl}
-use Rattle.tree.proofs.Laws.Calls.{shapely, shape-right}
+use Rattle.calls.proofs.Laws.Shapes.{shapely, shape-right}
 use Rattle.rank.specs.declared.Rank.{Rank}
 use Rattle.rank.specs.declared.Message.{Message}
 use Rattle.rank.specs.declared.Triple.{Triple}

@@ -1,6 +1,6 @@
 -- `all_in_order` meets its contract: the tests are the clauses, and the arrays have their lengths. Assumes nothing.
 use borrow.Author.Needs.{needs}
-use Rattle.tree.proofs.Laws.Calls.{view-le, view-boxed}
+use Rattle.calls.proofs.Laws.Shapes.{view-le, view-boxed}
 use Rattle.order.proofs.Laws.Ordering.{in-order-test, shaped-from}
 use Rattle.order.proofs.all_in_order.Statement.{statement}
 use Rattle.order.proofs.all_in_order.Tie as tie

@@ -3,7 +3,7 @@ use mathlib.Core.Path.{refl}
 use mathlib.Core.Bool.{false}
 use borrow.Author.Needs.{needs}
 use Rattle.sets.proofs.Laws.Bools.{clash}
-use Rattle.tree.proofs.Laws.Calls.{shape-zero}
+use Rattle.calls.proofs.Laws.Shapes.{shape-zero}
 use Rattle.order.proofs.Laws.Ordering.{in-order-misshapen}
 use Rattle.order.proofs.in_order.Statement.{statement}
 use Rattle.order.proofs.in_order.Tie as tie

@@ -18,7 +18,7 @@ array-read-parent : tie.Need-array-read-parent
 array-read-parent c = search needs
 
 children-of-requires : tie.Need-children-of-requires
-children-of-requires c κs = (search needs, (search needs, checked-fresh _ _ _ _ _ _ _ (c .before .before .fresh .ensures) (c .before .same .ensures) (c .if1 .left)))
+children-of-requires c κs = (search needs, (search needs, checked-fresh _ _ _ _ _ _ (c .before .before .fresh .ensures) (c .before .same .ensures) (c .if1 .left)))
 
 minus-requires : tie.Need-minus-requires
 minus-requires c κs = search needs

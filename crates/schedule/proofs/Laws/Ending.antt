@@ -11,8 +11,7 @@ use borrow.Author.Tests.{ltb-false}
 use Rattle.sets.proofs.Laws.Bools.{passes-or-fails}
 use Rattle.tree.specs.Tree.{flat}
 use Rattle.tree.specs.Forms.{flatForm}
-use Rattle.tree.specs.Calls.{wrongSize}
-use Rattle.tree.proofs.Laws.Calls.{flat-shapely}
+use Rattle.calls.proofs.Laws.Shapes.{flat-shapely}
 use Rattle.state.specs.declared.State.{State}
 use Rattle.state.specs.Starting.{freshState}
 use Rattle.order.proofs.Laws.Ordering.{in-order-facts}

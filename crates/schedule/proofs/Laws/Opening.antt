@@ -12,7 +12,7 @@ use Rattle.tree.specs.Tree.{flat}
 use Rattle.tree.specs.Forms.{treeOf, flatForm}
 use Rattle.tree.specs.Calls.{wrongSize}
 use Rattle.tree.proofs.Laws.Forms.{flat-form}
-use Rattle.tree.proofs.Laws.Calls.{flat-shapely, shape-right}
+use Rattle.calls.proofs.Laws.Shapes.{flat-shapely, shape-right}
 use Rattle.state.specs.declared.State.{State}
 use Rattle.state.specs.declared.Started.{Started}
 use Rattle.state.specs.States.{ownTree}

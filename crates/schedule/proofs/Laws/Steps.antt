@@ -7,8 +7,7 @@ use lib.Dec.{ltb}
 use lib.ListN.{length}
 use Rattle.tree.specs.Tree.{flat}
 use Rattle.tree.specs.Forms.{flatForm}
-use Rattle.tree.specs.Calls.{wrongSize}
-use Rattle.tree.proofs.Laws.Calls.{flat-shapely}
+use Rattle.calls.proofs.Laws.Shapes.{flat-shapely}
 use Rattle.events.specs.declared.Event.{Event}
 use Rattle.state.specs.declared.State.{State}
 use Rattle.state.specs.Starting.{freshState}

@@ -1,6 +1,5 @@
 -- Start along its code: the records and the rows are filled from the front. Assumes nothing.
 use mathlib.Core.Path.{_≡_, refl, sym, ap, ap₂, subst, _∙_}
-use mathlib.Core.Bool.{Bool, true, false}
 use mathlib.Core.List.{List, []}
 use mathlib.Core.Logic.{⊎-elim}
 use Prim.Native.Nat.{ℕ, _+_, _≤_, _<_}
@@ -11,9 +10,9 @@ use Rattle.sets.specs.Sets.{none}
 use Rattle.sets.proofs.Laws.Bools.{eq-or-ne}
 use Rattle.tree.specs.Tree.{row, fresh}
 use Rattle.tree.specs.Forms.{treeOf, flatForm}
-use Rattle.tree.specs.Calls.{misshapen}
+use Rattle.calls.specs.Calls.{misshapen}
 use Rattle.tree.proofs.Laws.Forms.{flat-form}
-use Rattle.tree.proofs.Laws.Calls.{shape-none}
+use Rattle.calls.proofs.Laws.Shapes.{shape-none}
 use Rattle.tree.proofs.Laws.Rows.{Patched, patched-start, patched-put, patched-end, row-replicate, length-row, getD-row}
 use Rattle.rank.specs.declared.Rank.{Rank}
 use Rattle.rank.specs.declared.Message.{Message}

@@ -1,6 +1,6 @@
 -- `fresh_state` meets its contract: n fresh ranks and rows. Assumes nothing.
 use borrow.Author.Needs.{needs}
-use Rattle.tree.proofs.Laws.Calls.{view-le, view-boxed}
+use Rattle.calls.proofs.Laws.Shapes.{view-le, view-boxed}
 use Rattle.state.proofs.Laws.Starting.{fresh-state}
 use Rattle.state.proofs.fresh_state.Statement.{statement}
 use Rattle.state.proofs.fresh_state.Tie as tie

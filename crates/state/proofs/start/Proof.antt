@@ -1,6 +1,6 @@
 -- `start` meets its contract: a refused start is empty, an accepted one has n fresh ranks and rows. Assumes nothing.
 use borrow.Author.Needs.{needs}
-use Rattle.tree.proofs.Laws.Calls.{shape-zero, shape-fits, form-fits, box-fits}
+use Rattle.calls.proofs.Laws.Shapes.{shape-zero, shape-fits, form-fits, box-fits}
 use Rattle.state.proofs.Laws.Starting.{start-refused, start-accepted}
 use Rattle.state.proofs.start.Statement.{statement}
 use Rattle.state.proofs.start.Tie as tie

@@ -1,26 +1,22 @@
 -- Climbing: what the path of a rank is, how long it may be, and how a climb follows it link by link. Assumes nothing.
 use mathlib.Core.Path.{_≡_, refl, sym, ap, subst, _∙_}
-use mathlib.Core.Bool.{false, cond}
+use mathlib.Core.Bool.{false}
 use mathlib.Core.List.{List, [], _∷_}
 use mathlib.Core.Logic.{⊎-elim}
 use Prim.Native.Nat.{ℕ, zero, suc, _+_, _-_, _/_, _^_, _≤_, _<_}
-use native.Mathlib.Nat.{two-pow-succ, le-refl, le-of-lt, le-trans, add-zero}
+use native.Mathlib.Nat.{two-pow-succ, le-refl, le-of-lt, add-zero}
 use native.Mathlib.Omega.{arith}
 use lib.Arith.{bin-ind}
 use lib.Dec.{eqb, ltb}
 use lib.ListN.{length, getD, drop, length-drop}
 use lib.Seq.{getD-drop, drop-drop}
-use borrow.Author.Tests.{eq-eqb, ne-eqb, lt-ltb, le-ltb, ltb-true}
+use borrow.Author.Tests.{eq-eqb, ne-eqb, lt-ltb, ltb-true}
 use Rattle.sets.specs.Sets.{none, has, count, smallest}
 use Rattle.sets.proofs.Laws.Bools.{clash, fails, eq-or-ne, lt-or-le, cond-true, cond-false}
 use Rattle.sets.proofs.Laws.Searches.{count-fewer, count-wide, count-le, count-add, Smallest, LeastOf, least, smallest-cases}
 use Rattle.tree.specs.Tree.{ancestorCount, flat, parent, upwards, path, links, reached, IsRoot, digits}
 use Rattle.tree.specs.Relations.{Above, Ancestry}
 use Rattle.tree.proofs.Kin.{Rooted}
-use Rattle.tree.specs.Refusals.{accepted, badSize, badRank, tooShort, badBox, badForm}
-use Rattle.tree.specs.Calls.{Told, told, climbing}
-use Rattle.tree.specs.declared.Climbed.{Climbed}
-use Rattle.tree.specs.declared.Climbed.the-variants.{Root, Short, WrongSize, WrongBox, WrongForm, WrongRank, FromMarked}
 use Rattle.tree.proofs.Laws.Flat.{flat-suc, flat-ancestry, flat-rooted}
 use Rattle.tree.proofs.Laws.Parents.{Free, Parent, nearest, lowest, nobody, parent-cases, parent-lt, parent-free, no-parent, has-parent}
 
@@ -189,12 +185,12 @@ climbing-step anc marks p k at up c e h =
     }
 
 -- the rank reached, and the links that are left above it
-climbing-reached : (anc : ℕ → ℕ) (marks p k at : ℕ) → Climbing anc marks p k at → reached anc marks p k ≡ at
+pub climbing-reached : (anc : ℕ → ℕ) (marks p k at : ℕ) → Climbing anc marks p k at → reached anc marks p k ≡ at
 unfolding reached
 climbing-reached anc marks p k at c =
     ap (λ (x : ℕ). getD (p ∷ path anc marks p) x none) (sym (add-zero k)) ∙ sym (getD-drop k (p ∷ path anc marks p) 0 none) ∙ ap (λ (l : List ℕ). getD l 0 none) (c .left)
 
-climbing-links : (anc : ℕ → ℕ) (marks p k at : ℕ) → Climbing anc marks p k at → links anc marks p ≡ k + links anc marks at
+pub climbing-links : (anc : ℕ → ℕ) (marks p k at : ℕ) → Climbing anc marks p k at → links anc marks p ≡ k + links anc marks at
 unfolding links
 climbing-links anc marks p k at c =
     let e : length (p ∷ path anc marks p) - k ≡ suc (length (path anc marks at)) = sym (length-drop k (p ∷ path anc marks p)) ∙ ap length (c .left) in
@@ -202,39 +198,3 @@ climbing-links anc marks p k at c =
 
 pub climbing-less : (anc : ℕ → ℕ) (marks at up : ℕ) → up ≡ parent anc marks at → (up ≡ none → ⊥) → up < at
 climbing-less anc marks at up e h = subst (λ (r : ℕ). r < at) (sym e) (parent-lt anc marks at (λ x. h (e ∙ x)))
-
-pub climbing-root : (anc : ℕ → ℕ) (marks p k at up allowance : ℕ) → Climbing anc marks p k at → up ≡ parent anc marks at → up ≡ none → k ≤ allowance → told (Root at k) ≡ climbing anc marks p allowance
-unfolding told climbing
-climbing-root anc marks p k at up allowance c u e l =
-    let n : links anc marks p ≡ k = climbing-links anc marks p k at c ∙ ap (λ (x : ℕ). k + x) (links-root anc marks at (sym u ∙ e)) ∙ add-zero k in
-    rw (n, climbing-reached anc marks p k at c, le-ltb allowance k l)
-
-pub climbing-short : (anc : ℕ → ℕ) (marks p k at up allowance : ℕ) → Climbing anc marks p k at → up ≡ parent anc marks at → (up ≡ none → ⊥) → k ≡ allowance → told (Short at k) ≡ climbing anc marks p allowance
-unfolding told climbing
-climbing-short anc marks p k at up allowance c u h e =
-    let n : allowance < links anc marks p = omega (arith, climbing-links anc marks p k at c, links-link anc marks at (parent anc marks at) refl (λ x. h (u ∙ x))) in
-    rw (lt-ltb allowance (links anc marks p) n, ← e, climbing-reached anc marks p k at c)
-
--- ---- an answer is determined by its number, rank and links
-
-back : Told → Climbed
-back t =
-    cond (eqb (t .number) accepted) (Root (t .rank) (t .climbed))
-    (cond (eqb (t .number) tooShort) (Short (t .rank) (t .climbed))
-    (cond (eqb (t .number) badSize) WrongSize
-    (cond (eqb (t .number) badBox) WrongBox
-    (cond (eqb (t .number) badForm) WrongForm
-    (cond (eqb (t .number) badRank) WrongRank (FromMarked (t .rank)))))))
-
-told-back : (a : Climbed) → back (told a) ≡ a
-unfolding told back
-told-back (Root r k) = refl
-told-back (Short r k) = refl
-told-back WrongSize = refl
-told-back WrongBox = refl
-told-back WrongForm = refl
-told-back WrongRank = refl
-told-back (FromMarked r) = refl
-
-pub told-determines : (a b : Climbed) → told a ≡ told b → a ≡ b
-told-determines a b e = sym (told-back a) ∙ ap back e ∙ told-back b

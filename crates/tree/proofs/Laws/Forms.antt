@@ -10,7 +10,7 @@ use mir.Val.{Fits}
 use lib.Dec.{eqb}
 use borrow.Author.Tests.{eq-eqb, ne-eqb}
 use Rattle.sets.proofs.Laws.Bools.{eq-or-ne}
-use Rattle.tree.specs.Tree.{ancestors, half, flat}
+use Rattle.tree.specs.Tree.{half, flat}
 use Rattle.tree.specs.Relations.{Ancestry, Chained}
 use Rattle.tree.specs.Forms.{headOf, placeOf, headAbove, inStar, inNest, aboveIn, treeOf, flatForm, starForm, nestedForm}
 use Rattle.tree.proofs.Kin.{Rooted, Smaller, IsTree}
@@ -123,8 +123,8 @@ unfolding aboveIn half
 form-flat form s p d e = rw (ne-eqb form 1 d, ne-eqb form 2 e)
 
 -- what the code computes is no larger than p
-pub head-above-fits : (s p : ℕ) → Fits w8 p → Fits w8 (p / s / 2 * s)
-head-above-fits s p f = record { fits = lt-of-le-of-lt (le-trans (mul-le-mul-right s (div-le-self (p / s) 2)) (div-mul-le-self p s)) (f .fits) }
+pub head-above-fits : (s p d : ℕ) → Fits w8 p → Fits w8 (p / s / d * s)
+head-above-fits s p d f = record { fits = lt-of-le-of-lt (le-trans (mul-le-mul-right s (div-le-self (p / s) d)) (div-mul-le-self p s)) (f .fits) }
 
 pub nest-fits : (s p : ℕ) → Fits w8 p → Fits w8 (p - p % s + p % s / 2)
 nest-fits s p f = record { fits = go (p % s) (mod-le p s) (f .fits) }

@@ -9,7 +9,7 @@ div-result : tie.Need-div-result
 div-result c = search needs
 
 mul-result : tie.Need-mul-result
-mul-result c = head-above-fits _ _ (c .fits .p)
+mul-result c = head-above-fits _ _ _ (c .fits .p)
 
 returns : tie.Need-returns
 unfolding headAbove

@@ -1,8 +1,10 @@
 -- `tree::mark_view` meets its contract: at each return the tests on the way pick the definition's case. Assumes nothing.
 use borrow.Author.Needs.{needs}
-use Rattle.tree.proofs.Laws.Calls.{view-le, view-boxed, view-rank-fits, checked-fresh, mark-outside, mark-stale, mark-wrong-rank, mark-accepted}
-use Rattle.tree.proofs.mark_view.Statement.{statement}
-use Rattle.tree.proofs.mark_view.Tie as tie
+use Rattle.tree.proofs.Laws.Calls.{checked-fresh}
+use Rattle.calls.proofs.Laws.Shapes.{view-le, view-boxed, view-rank-fits}
+use Rattle.calls.proofs.Laws.Calls.{mark-outside, mark-stale, mark-wrong-rank, mark-accepted}
+use Rattle.calls.proofs.mark_view.Statement.{statement}
+use Rattle.calls.proofs.mark_view.Tie as tie
 
 below-requires : tie.Need-below-requires
 below-requires c κs = search view-le
@@ -38,7 +40,7 @@ cast-mend : tie.Need-cast-mend
 cast-mend c = search view-rank-fits
 
 mend-requires : tie.Need-mend-requires
-mend-requires c κs = (search view-le, (search needs, checked-fresh _ _ _ _ _ _ _ (c .before .before .before .fresh .ensures) (c .before .before .same .ensures) (c .before .if2 .left)))
+mend-requires c κs = (search view-le, (search needs, checked-fresh _ _ _ _ _ _ (c .before .before .before .fresh .ensures) (c .before .before .same .ensures) (c .before .if2 .left)))
 
 returns-4 : tie.Need-returns-4
 returns-4 c = search mark-accepted

@@ -1,8 +1,9 @@
 -- `tree::mark` meets its contract: 1, 50 and 51 come before the view is looked at. Assumes nothing.
 use borrow.Author.Needs.{needs}
-use Rattle.tree.proofs.Laws.Calls.{shape-zero, shape-fits, form-fits, box-fits, mark-misshapen}
-use Rattle.tree.proofs.mark.Statement.{statement}
-use Rattle.tree.proofs.mark.Tie as tie
+use Rattle.calls.proofs.Laws.Shapes.{shape-zero, shape-fits, form-fits, box-fits}
+use Rattle.calls.proofs.Laws.Calls.{mark-misshapen}
+use Rattle.calls.proofs.mark.Statement.{statement}
+use Rattle.calls.proofs.mark.Tie as tie
 
 misshapen-requires : tie.Need-misshapen-requires
 misshapen-requires c κs = search needs

@@ -5,11 +5,12 @@ use mathlib.Core.List.{List}
 use Prim.Native.Nat.{ℕ, _≤_, _<_}
 use native.Mathlib.Omega.{arith}
 use Rattle.sets.specs.Sets.{has, add, count}
-use Rattle.tree.specs.Tree.{sized, nobody, endedAt}
+use Rattle.sets.proofs.Laws.Counts.{empty-count}
+use Rattle.tree.specs.Tree.{nobody, endedAt}
 use Rattle.tree.specs.Forms.{treeOf}
-use Rattle.tree.specs.Calls.{markRefused, marked}
-use Rattle.tree.proofs.Laws.Mending.{empty-sized, moved-again, moved-size, moved-who}
-use Rattle.tree.proofs.Laws.Marks.{marked-by}
+use Rattle.calls.specs.Calls.{markRefused, marked}
+use Rattle.tree.proofs.Laws.Mending.{moved-again, moved-size, moved-who}
+use Rattle.calls.proofs.Laws.Marks.{marked-by}
 
 module _ (n form span marks : ℕ) (table : List ℕ) (q : ℕ) where
   abbrev anc : ℕ → ℕ
@@ -17,8 +18,8 @@ module _ (n form span marks : ℕ) (table : List ℕ) (q : ℕ) where
 
   -- moved is the size of the set, accepted or not.
   pub a-mark-counts-who-moved : marked n form span marks table q .moved .count ≡ count (has (marked n form span marks table q .moved .ranks)) 64
-  unfolding markRefused sized
-  a-mark-counts-who-moved = marked-by n form span marks table q (λ r. r .moved .count ≡ count (has (r .moved .ranks)) 64) (λ number d. sym (ap (λ m. m .count) empty-sized)) (λ f. moved-size anc n marks q)
+  unfolding markRefused
+  a-mark-counts-who-moved = marked-by n form span marks table q (λ r. r .moved .count ≡ count (has (r .moved .ranks)) 64) (λ number d. sym (empty-count 64)) (λ f. moved-size anc n marks q)
 
   -- A rank is in the set exactly when it is unmarked after the mark and its entry ended at the newly marked one.
   pub a-mark-answers-who-moved : marked n form span marks table q .answer ≡ 0 → (p : ℕ) → has (marked n form span marks table q .moved .ranks) p ≡ endedAt n q (marked n form span marks table q .marks) table p

@@ -1,8 +1,9 @@
 -- `tree::climb` meets its contract: at each return the tests on the way pick the definition's case. Assumes nothing.
 use borrow.Author.Needs.{needs}
-use Rattle.tree.proofs.Laws.Calls.{shape-le, box-pos, shape-fits, form-fits, box-fits, rank-fits, rank-lt, number-known, climb-misshapen, climb-wrong-rank, climb-from-marked, climb-unmarked}
-use Rattle.tree.proofs.climb.Statement.{statement}
-use Rattle.tree.proofs.climb.Tie as tie
+use Rattle.calls.proofs.Laws.Shapes.{shape-le, box-pos, shape-fits, form-fits, box-fits, rank-fits, rank-lt}
+use Rattle.calls.proofs.Laws.Calls.{number-known, climb-misshapen, climb-wrong-rank, climb-from-marked, climb-unmarked}
+use Rattle.calls.proofs.climb.Statement.{statement}
+use Rattle.calls.proofs.climb.Tie as tie
 
 misshapen-requires : tie.Need-misshapen-requires
 misshapen-requires c κs = search needs

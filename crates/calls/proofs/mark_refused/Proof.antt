@@ -1,8 +1,8 @@
 -- `tree::mark_refused` meets its contract: the record is the definition's. Assumes nothing.
 use borrow.Author.Needs.{needs}
-use Rattle.tree.specs.Calls.{markRefused}
-use Rattle.tree.proofs.mark_refused.Statement.{statement}
-use Rattle.tree.proofs.mark_refused.Tie as tie
+use Rattle.calls.specs.Calls.{markRefused}
+use Rattle.calls.proofs.mark_refused.Statement.{statement}
+use Rattle.calls.proofs.mark_refused.Tie as tie
 
 nobody-requires : tie.Need-nobody-requires
 nobody-requires c κs = search needs

@@ -1,7 +1,7 @@
 -- `tree::not_climbed` meets its contract. Assumes nothing.
-use Rattle.tree.proofs.Laws.Calls.{not-climbed-size, not-climbed-box, not-climbed-form}
-use Rattle.tree.proofs.not_climbed.Statement.{statement}
-use Rattle.tree.proofs.not_climbed.Tie as tie
+use Rattle.calls.proofs.Laws.Calls.{not-climbed-size, not-climbed-box, not-climbed-form}
+use Rattle.calls.proofs.not_climbed.Statement.{statement}
+use Rattle.calls.proofs.not_climbed.Tie as tie
 
 returns : tie.Need-returns
 returns c = search not-climbed-size

@@ -5,11 +5,12 @@ use mathlib.Core.List.{List, [], _∷_}
 use lib.Dec.{eqb}
 use lib.ListN.{replicate}
 use Rattle.sets.specs.Sets.{has, union, meet, below, count, every}
 use Rattle.tree.specs.Tree.{flat, fresh, digits}
 use Rattle.tree.specs.Forms.{flatForm}
-use Rattle.tree.specs.Calls.{same, marked, climbed, movedBelow}
-use Rattle.tree.specs.Examples.{tallies, tells}
-use Rattle.tree.specs.declared.Marked.{Marked}
+use Rattle.tree.specs.Calls.{same, movedBelow}
+use Rattle.calls.specs.Calls.{marked, climbed}
+use Rattle.calls.specs.Examples.{tallies, tells}
+use Rattle.calls.specs.declared.Marked.{Marked}
 
 -- A mark answers this number, marks and table, and nobody moved.
 unfoldable pub answers : Marked → ℕ → ℕ → List ℕ → Bool

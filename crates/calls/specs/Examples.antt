@@ -4,11 +4,12 @@ use mathlib.Core.Bool.{Bool, _&&_}
 use mathlib.Core.List.{List, [], _∷_, _++_}
 use lib.Dec.{eqb}
 use lib.ListN.{replicate}
 use Rattle.tree.specs.Tree.{flat, fresh}
 use Rattle.tree.specs.Forms.{flatForm}
-use Rattle.tree.specs.Calls.{Told, same, marked, climbed}
+use Rattle.tree.specs.Calls.{same}
+use Rattle.calls.specs.Calls.{Told, marked, climbed}
 use Rattle.tree.specs.declared.Moved.{Moved}
-use Rattle.tree.specs.declared.Marked.{Marked}
+use Rattle.calls.specs.declared.Marked.{Marked}
 
 -- A view of 8 ranks has these parents, and 255 from 8 on.
 unfoldable pub parents8 : List ℕ → List ℕ → Bool

@@ -3,10 +3,11 @@
 use Prim.Native.Nat.{_≤_}
 use native.Mathlib.Omega.{arith}
 use borrow.Author.Needs.{needs}
 use Rattle.tree.specs.Forms.{treeOf}
-use Rattle.tree.proofs.Laws.Climbing.{Climbing, climbing-start, climbing-step, climbing-less, climbing-root, climbing-short}
-use Rattle.tree.proofs.climb_from.Statement.{statement}
-use Rattle.tree.proofs.climb_from.Tie as tie
+use Rattle.tree.proofs.Laws.Climbing.{Climbing, climbing-start, climbing-step, climbing-less}
+use Rattle.calls.proofs.Laws.Climbing.{climbing-root, climbing-short}
+use Rattle.calls.proofs.climb_from.Statement.{statement}
+use Rattle.calls.proofs.climb_from.Tie as tie
 
 abbrev Inv-loop : tie.InvT-loop
 Inv-loop form span marks p allowance at₀ links₀ at links = Climbing (treeOf form span) marks p links at × (links ≤ allowance)

@@ -1,8 +1,8 @@
 -- `tree::misshapen` meets its contract: the tests on the way pick the number. Assumes nothing.
 use borrow.Author.Needs.{needs}
-use Rattle.tree.proofs.Laws.Calls.{size-number, box-number, form-number, no-number}
-use Rattle.tree.proofs.misshapen.Statement.{statement}
-use Rattle.tree.proofs.misshapen.Tie as tie
+use Rattle.calls.proofs.Laws.Shapes.{size-number, box-number, form-number, no-number}
+use Rattle.calls.proofs.misshapen.Statement.{statement}
+use Rattle.calls.proofs.misshapen.Tie as tie
 
 wrong-size-requires : tie.Need-wrong-size-requires
 wrong-size-requires c κs = search needs

@@ -2,20 +2,21 @@
 use mathlib.Core.Path.{_≡_, refl, sym, ap, _∙_}
 use mathlib.Core.Bool.{Bool, true, false, cond, not}
 use mathlib.Core.List.{List}
-use Prim.Native.Nat.{ℕ, _≤_, _<_}
+use Prim.Native.Nat.{ℕ, _<_}
 use native.Mathlib.Omega.{arith}
 use lib.Dec.{eqb, ltb}
 use borrow.Author.Tests.{eqb-true, eqb-false, eq-eqb, ltb-true, lt-ltb, not-false}
 use Rattle.sets.specs.Sets.{has, add, minus, below}
 use Rattle.sets.proofs.Laws.Bools.{clash, or-neither}
 use Rattle.sets.proofs.Laws.Members.{has-zero, has-below, has-below-lt, minus-l, minus-r, minus-not, none-in}
 use Rattle.tree.specs.Refusals.{accepted, notInOrder, badRank}
 use Rattle.tree.specs.Tree.{fresh, moved}
-use Rattle.tree.specs.Calls.{misshapen, same, wrongView, markRefused, marked}
+use Rattle.tree.specs.Calls.{same}
+use Rattle.calls.specs.Calls.{misshapen, wrongView, markRefused, marked}
 use Rattle.tree.specs.Forms.{treeOf}
-use Rattle.tree.specs.declared.Marked.{Marked}
+use Rattle.calls.specs.declared.Marked.{Marked}
 use Rattle.tree.proofs.Laws.Rows.{same-eq, same-refl}
-use Rattle.tree.proofs.Laws.Calls.{Shapely, shapely, shape-right}
+use Rattle.calls.proofs.Laws.Shapes.{Shapely, shapely, shape-right}
 
 -- Size, form and box size are right, the marks lie within the group, the table is the fresh one, and the rank is one of the group.
 pub record Markable (n form span marks : ℕ) (table : List ℕ) (q : ℕ) : Type 0 where

@@ -1,0 +1,5 @@
+pub mod Laws
+pub mod Examples
+pub mod Cases
+pub mod Determined
+pub mod Marking
