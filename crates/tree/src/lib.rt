@@ -5,7 +5,7 @@ ghost use Prim.Native.Nat.{_+_, _<_, _≤_};
 ghost use lib.Dec.{eqb, ltb};
 ghost use lib.ListN.{getD};
 ghost use Rattle.sets.specs.Sets.{add, below, has, largest, meet, minus, none, setOf, smallest};
-ghost use Rattle.tree.specs.Tree.{children, fresh, nobody, parent, row, sized};
+ghost use Rattle.tree.specs.Tree.{children, flat, fresh, half, nobody, parent, row, sized};
 ghost use Rattle.tree.specs.Forms.{aboveIn, headAbove, inNest, inStar, treeOf};
 ghost use Rattle.tree.specs.Calls.{andThen, mended, mendedBelow, same, wrongSize};
 
@@ -92,24 +92,48 @@ fn in_nest(span: u8, p: u8) -> u8
     head + place / 2
 }
 
-// The rank next above p, for any p but 0.
+// The rank next above p, for any p but 0, in a form with boxes.
 fn above(form: u8, span: u8, p: u8) -> u8
     requires { ⌜ 0 < span ⌝ }
+    requires { ⌜ ((form ≡ 1 → ⊥) → form ≡ 2) ⌝ }
     ensures { λ r. ⌜ r ≡ aboveIn form span p ⌝ }
 {
     if form == STAR {
         return in_star(span, p);
     }
-    if form == NESTED {
-        return in_nest(span, p);
-    }
+    in_nest(span, p)
+}
+
+// The same in the flat form.
+fn half(p: u8) -> u8
+    ensures { λ r. ⌜ r ≡ half p ⌝ }
+{
     p / 2
 }
 
 // The ancestors of p that a parent is looked for among, the nearest first: as far as the first that is unmarked, and down to the lowest unmarked
-// rank, below which all are marked.
-fn ancestors(form: u8, span: u8, marks: u64, p: u8, lowest: u8) -> u64
+// rank, below which all are marked. In the flat form,
+fn flat_ancestors(marks: u64, p: u8, lowest: u8) -> u64
+    requires { ⌜ p < 64 ⌝ }
+    requires { ⌜ lowest ≡ smallest (has (minus (below p) marks)) 64 none ⌝ }
+    ensures { λ r. ⌜ cond (eqb (minus r marks) 0) lowest (largest (has (minus r marks)) 64 none) ≡ parent flat marks p ⌝ }
+{
+    let mut found: u64 = 0;
+    let mut at = half(p);
+    while lowest < at {
+        found = sets::with(found, at);
+        if !sets::member(marks, at) {
+            return found;
+        }
+        at = half(at);
+    }
+    found
+}
+
+// and in a form with boxes.
+fn boxed_ancestors(form: u8, span: u8, marks: u64, p: u8, lowest: u8) -> u64
     requires { ⌜ 0 < span ⌝ }
+    requires { ⌜ ((form ≡ 1 → ⊥) → form ≡ 2) ⌝ }
     requires { ⌜ p < 64 ⌝ }
     requires { ⌜ lowest ≡ smallest (has (minus (below p) marks)) 64 none ⌝ }
     ensures { λ r. ⌜ cond (eqb (minus r marks) 0) lowest (largest (has (minus r marks)) 64 none) ≡ parent (treeOf form span) marks p ⌝ }
@@ -124,6 +148,19 @@ fn ancestors(form: u8, span: u8, marks: u64, p: u8, lowest: u8) -> u64
         at = above(form, span, at);
     }
     found
+}
+
+// Those of the form; which one it is is asked once for a rank and not at each step.
+fn ancestors(form: u8, span: u8, marks: u64, p: u8, lowest: u8) -> u64
+    requires { ⌜ 0 < span ⌝ }
+    requires { ⌜ p < 64 ⌝ }
+    requires { ⌜ lowest ≡ smallest (has (minus (below p) marks)) 64 none ⌝ }
+    ensures { λ r. ⌜ cond (eqb (minus r marks) 0) lowest (largest (has (minus r marks)) 64 none) ≡ parent (treeOf form span) marks p ⌝ }
+{
+    if (form != STAR) & (form != NESTED) {
+        return flat_ancestors(marks, p, lowest);
+    }
+    boxed_ancestors(form, span, marks, p, lowest)
 }
 
 // The parent of p: the nearest unmarked ancestor, else the lowest unmarked rank below p, else NONE.

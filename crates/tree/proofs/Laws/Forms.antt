@@ -1,6 +1,6 @@
 -- Each form of tree: whatever the box size, the rank next above is smaller, so it is a tree; and with form 0 it is the flat one. Assumes nothing.
 use mathlib.Core.Path.{_≡_, refl, sym, ap, subst, _∙_}
-use mathlib.Core.Bool.{Bool, true, false, cond}
+use mathlib.Core.Bool.{Bool, true, false, cond, not, _&&_}
 use mathlib.Core.Logic.{_⊎_, ⊎-elim}
 use Prim.Native.Nat.{ℕ, _+_, _-_, _*_, _/_, _%_, _^_, _≤_, _<_}
 use native.Mathlib.Nat.{le-trans, lt-of-le-of-lt, div-le-self, mod-le, mul-le-mul-right, div-mul-le-self, mod-eq-sub-div-mul, mod-zero, zero-mul, mul-lt-mul-of-pos-right}
@@ -8,9 +8,9 @@ use native.Mathlib.Omega.{arith}
 use mir.Syntax.{w8}
 use mir.Val.{Fits}
 use lib.Dec.{eqb}
-use borrow.Author.Tests.{eq-eqb, ne-eqb}
-use Rattle.sets.proofs.Laws.Bools.{eq-or-ne}
-use Rattle.tree.specs.Tree.{half, flat}
+use borrow.Author.Tests.{eq-eqb, ne-eqb, not-true}
+use Rattle.sets.proofs.Laws.Bools.{clash, eq-or-ne, and-i, and-l, and-r, not-i}
+use Rattle.tree.specs.Tree.{half, flat, parent}
 use Rattle.tree.specs.Relations.{Ancestry, Chained}
 use Rattle.tree.specs.Forms.{headOf, placeOf, headAbove, inStar, inNest, aboveIn, treeOf, flatForm, starForm, nestedForm}
 use Rattle.tree.proofs.Kin.{Rooted, Smaller, IsTree}
@@ -114,13 +114,17 @@ pub form-star : (form s p r : ℕ) → form ≡ 1 → r ≡ inStar s p → r ≡
 unfolding aboveIn
 form-star form s p r e f = f ∙ rw (eq-eqb form 1 e)
 
-pub form-nest : (form s p r : ℕ) → (form ≡ 1 → ⊥) → form ≡ 2 → r ≡ inNest s p → r ≡ aboveIn form s p
+pub form-nest : (form s p r : ℕ) → ((form ≡ 1 → ⊥) → form ≡ 2) → (form ≡ 1 → ⊥) → r ≡ inNest s p → r ≡ aboveIn form s p
 unfolding aboveIn
-form-nest form s p r d e f = f ∙ rw (ne-eqb form 1 d, eq-eqb form 2 e)
+form-nest form s p r e d f = f ∙ rw (ne-eqb form 1 d, eq-eqb form 2 (e d))
 
-pub form-flat : (form s p : ℕ) → (form ≡ 1 → ⊥) → (form ≡ 2 → ⊥) → p / 2 ≡ aboveIn form s p
-unfolding aboveIn half
-form-flat form s p d e = rw (ne-eqb form 1 d, ne-eqb form 2 e)
+-- a form is the flat one, or has boxes
+pub near-flat : (form s marks p x : ℕ) → not (eqb form 1) && not (eqb form 2) ≡ true → x ≡ parent flat marks p → x ≡ parent (treeOf form s) marks p
+unfolding treeOf aboveIn flat
+near-flat form s marks p x e f = f ∙ rw (not-true (eqb form 1) (and-l (not (eqb form 1)) (not (eqb form 2)) e), not-true (eqb form 2) (and-r (not (eqb form 1)) (not (eqb form 2)) e))
+
+pub boxed-else : (form : ℕ) → not (eqb form 1) && not (eqb form 2) ≡ false → (form ≡ 1 → ⊥) → form ≡ 2
+boxed-else form e d = ⊎-elim (λ (z : form ≡ 2). z) (λ (n : form ≡ 2 → ⊥). absurd (clash (not (eqb form 1) && not (eqb form 2)) (and-i _ _ (not-i _ (ne-eqb form 1 d)) (not-i _ (ne-eqb form 2 n))) e)) (eq-or-ne form 2)
 
 -- what the code computes is no larger than p
 pub head-above-fits : (s p d : ℕ) → Fits w8 p → Fits w8 (p / s / d * s)
