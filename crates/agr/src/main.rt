@@ -1,4 +1,6 @@
 // The schedule program: reads a schedule file from standard input and prints its listing, or only its refusal.
+#![tactic(auto)]
+
 use libc::{STDIN_FILENO, STDOUT_FILENO};
 
 fn main() {

@@ -1,5 +1,7 @@
 // Prints the listing of each schedule in data/, 000.agr to 203.agr: 200 random ones, then no bytes, six bytes, the most events, and one byte more.
 // The model of tests/model made them and the file stdout beside src/, which holds the listings that it expects.
+#![tactic(auto)]
+
 ghost use Rattle.std.specs.Prelude.{◌<◌};
 
 use libc::STDOUT_FILENO;

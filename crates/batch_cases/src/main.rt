@@ -12,6 +12,8 @@
 //   parts ANSWER SUM PAST STATE      answer places, one to a number; how many places past those were written to; the checksum of the state
 //   same                             or differ: whether answer, places and state are the same, number by number
 // Where no call is refused, so where each takes a multiple of three numbers and is lent as many places, they are the same.
+#![tactic(auto)]
+
 mod by_hand;
 mod runs;
 mod script;

@@ -1,4 +1,6 @@
 // Events by the handful, on a state that is lent. The entry point for callers is batch; it refuses bad input and requires nothing.
+#![tactic(auto)]
+
 ghost use Rattle.std.specs.Prelude.{◌≡◌, ◌*◌, ◌≤◌, length};
 ghost use Rattle.state.specs.States.{own_tree};
 ghost use Rattle.playing.specs.Playing.{event_in, played, spelt};

@@ -1,5 +1,7 @@
 // The calls on a view that is handed in, mark and climb, in a form with a box size; and the check of size, form and box size that start shares.
 // mark and climb are entry points for callers: they refuse bad input and require nothing.
+#![tactic(auto)]
+
 ghost use Rattle.std.specs.Prelude.{◌≡◌, ◌<◌};
 ghost use Rattle.tree.specs.Forms.{tree_of};
 ghost use Rattle.calls.specs.Calls.{climbed, climbing, marked, mark_refused, misshapen, not_climbed, told};

@@ -1,4 +1,6 @@
 // The lines of a picture. Each function writes from a place of a lent buffer on and answers the place after its last byte.
+#![tactic(auto)]
+
 ghost use Rattle.std.specs.Prelude.{cond, ◌+◌, ◌<◌, ◌≤◌, length};
 ghost use Rattle.text.specs.Text.{Wrote};
 ghost use Rattle.dot.specs.Dot.{edge, edge_line, node_line, opening_line};

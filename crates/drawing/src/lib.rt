@@ -1,4 +1,6 @@
 // The pictures of what the living ranks of a run see, and what the program `views` prints of a file.
+#![tactic(auto)]
+
 ghost use Rattle.std.specs.Prelude.{◌≡◌, ◌+◌, ◌<◌, ◌≤◌, get_or, length, take};
 ghost use Rattle.state.specs.States.{zero_rank};
 ghost use Rattle.text.specs.Text.{Wrote, lines};

@@ -1,4 +1,6 @@
 // An event: its kind, and what the kind names.
+#![tactic(auto)]
+
 ghost use Rattle.std.specs.Prelude.{◌≡◌};
 ghost use Rattle.events.specs.Events.{names_place, names_rank};
 

@@ -1,4 +1,6 @@
 // The schedule file: its checks and its events.
+#![tactic(auto)]
+
 ghost use Rattle.std.specs.Prelude.{◌≡◌, ◌+◌, ◌*◌, ◌<◌, ◌≤◌, length};
 ghost use Rattle.files.specs.Files.{broken, event_at, events_in, header, number_at, number_of, short_at, wrong_mark};
 

@@ -1,4 +1,6 @@
 // The group: one event on a state handed in. The entry point for callers is event; it refuses bad input and requires nothing.
+#![tactic(auto)]
+
 ghost use Rattle.std.specs.Prelude.{◌≡◌, cond, true, ◌+◌, ◌-◌, ◌<◌, ◌≤◌, take};
 ghost use Rattle.sets.specs.Sets.{add};
 ghost use Rattle.rank.specs.Sends.{size};

@@ -1,6 +1,8 @@
 // Runs document 01's examples 10 and 11 through start and event, and meets every refusal of an event, 1 to 11.
 // The file stdout beside src/ was worked out by hand from document 01 and request 2026-08; each heading quotes the sentence that it comes from.
 // The file stdin has the same lines without the answers, and the commands that lead to them in braces (script.rt).
+#![tactic(auto)]
+
 mod by_hand;
 mod obey;
 mod script;

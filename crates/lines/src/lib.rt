@@ -1,5 +1,7 @@
 // The lines of a listing: numbers are decimal without leading zeros, fields one space apart, and each line ends in one line feed. Each
 // function writes from a place of a lent buffer on and answers the place after its last byte.
+#![tactic(auto)]
+
 ghost use Rattle.std.specs.Prelude.{◌≡◌, ◌++◌, ◌+◌, ◌*◌, ◌<◌, ◌≤◌, length};
 ghost use Rattle.rank.specs.Triples.{code};
 ghost use Rattle.text.specs.Text.{Wrote, feed, field};

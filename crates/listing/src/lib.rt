@@ -1,4 +1,6 @@
 // The listing of a run, and what the schedule program prints of a file.
+#![tactic(auto)]
+
 ghost use Rattle.std.specs.Prelude.{◌+◌, ◌*◌, ◌≤◌, ◌≡◌, get_or, length, take};
 ghost use Rattle.state.specs.States.{zero_rank};
 ghost use Rattle.text.specs.Text.{Wrote, lines};

@@ -1,5 +1,7 @@
 // The messages in flight: 128 places, zero after the last message. While events are played each message is three numbers, so that a list is
 // changed where it stands.
+#![tactic(auto)]
+
 ghost use Rattle.std.specs.Prelude.{◌≡◌, cond, true, ◌++◌, ◌+◌, ◌-◌, ◌^◌, ◌<◌, ◌≤◌, get_or, length, set, take};
 ghost use Rattle.rank.specs.Sends.{letters, size};
 ghost use Rattle.net.specs.Net.{joining, message_of, messages_of, padded, placed, Small, without, zero_message};

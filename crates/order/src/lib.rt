@@ -1,4 +1,6 @@
 // Whether a state handed in is in order.
+#![tactic(auto)]
+
 ghost use Rattle.std.specs.Prelude.{◌≡◌, ◌&&◌, true, [], ◌<◌, ◌≤◌, get_or, length};
 ghost use Rattle.sets.specs.Sets.{every};
 ghost use Rattle.tree.specs.Forms.{tree_of};

@@ -1,5 +1,7 @@
 // Reads calls of write and read, and prints what each answers (script.rt, answer.rt).
 // The model of tests/model made the files stdin and stdout beside src/: random views and buffers, pictures, and damaged texts.
+#![tactic(auto)]
+
 mod answer;
 mod script;
 

@@ -1,4 +1,6 @@
 // A view as a DOT digraph, written and read back. Entry points for callers are write and read; they refuse bad input and require nothing.
+#![tactic(auto)]
+
 ghost use Rattle.std.specs.Prelude.{◌≡◌, cond, true, ◌+◌, ◌*◌, ◌≤◌, length};
 ghost use Rattle.text.specs.Text.{Wrote, lines};
 ghost use Rattle.dot.specs.Dot.{edge_line, node_line};

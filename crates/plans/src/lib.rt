@@ -1,4 +1,6 @@
 // The plan of an event: what it will change, decided from one rank's record and row and the message at the place.
+#![tactic(auto)]
+
 ghost use Rattle.std.specs.Prelude.{◌≡◌, cond, ◌+◌, ◌-◌, ◌<◌};
 ghost use Rattle.tree.specs.Forms.{tree_of};
 ghost use Rattle.refusals.specs.Refusing.{refusal};

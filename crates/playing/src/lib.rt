@@ -1,4 +1,6 @@
 // Events one after the other: the loop that the run of a file and a call on a lent run of events share.
+#![tactic(auto)]
+
 ghost use Rattle.std.specs.Prelude.{◌≡◌, ◌+◌, ◌*◌, ◌≤◌, length};
 ghost use Rattle.state.specs.States.{joined, own_tree};
 ghost use Rattle.order.specs.Between.{InOrder};

@@ -1,4 +1,5 @@
 // What agr and agr_cases do: read a schedule from one descriptor, run it, and print its listing, or only its refusal, to another in one write.
+#![tactic(auto)]
 
 // One byte more than the longest file has, so that a longer one is seen.
 const FILE: usize = 36871;

@@ -1,5 +1,7 @@
 // The view that a reader proposes for a text, from the first line and the node lines. Whoever asks must still compare the text with the picture of
 // that view.
+#![tactic(auto)]
+
 ghost use Rattle.std.specs.Prelude.{◌≡◌, ◌≤◌, get_or};
 ghost use Rattle.proposing.specs.Proposing.{after_node, is_digit, marks_in, number_in, number_from, size_in, width};
 

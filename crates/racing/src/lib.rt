@@ -1,5 +1,7 @@
 // The function that the benchmark links to race it against plain Rust: the run of a file, in a library of its own, so that it is compiled as in
 // the program. It refuses as the run does and requires nothing.
+#![tactic(auto)]
+
 ghost use Rattle.std.specs.Prelude.{◌≡◌};
 ghost use Rattle.schedule.specs.Runs.{run};
 

@@ -1,5 +1,7 @@
 // One rank: what it holds, and what it does when it enters, takes a message, hears of a death, or settles.
 // A record goes in by value and the new record comes back, with its row of the tables, what it sends, and moved.
+#![tactic(auto)]
+
 ghost use Rattle.std.specs.Prelude.{◌≡◌, ℕ, ◌<◌, ◌≤◌, ◌&&◌, false, eqb, get_or};
 ghost use Rattle.sets.specs.Sets.{has, meet, none, set_of};
 ghost use Rattle.tree.specs.Tree.{children, parent};

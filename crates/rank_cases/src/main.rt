@@ -1,6 +1,8 @@
 // Runs one rank through hand-made situations, one for each branch of each rule, and prints its record, its sends and moved.
 // The cases stand in the file stdin beside src/, each under the sentence that it comes from. The file stdout was worked out by hand
 // from document 01, request 2026-04 (who reports to an undecided rank is owed) and request 2026-08 (a triple for a word).
+#![tactic(auto)]
+
 mod act;
 mod script;
 mod show;

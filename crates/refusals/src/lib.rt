@@ -1,4 +1,6 @@
 // Refusals 3 to 10 of an event: only what can apply to its kind is tested, and the lowest that applies is given.
+#![tactic(auto)]
+
 ghost use Rattle.std.specs.Prelude.{◌≡◌, cond, false, not, true, ◌&&◌, ◌<◌, ◌≤◌, eqb};
 ghost use Rattle.sets.specs.Sets.{below, has, minus, only};
 ghost use Rattle.tree.specs.Refusals.{accepted, entered, living_ends, living_rank, only_living};

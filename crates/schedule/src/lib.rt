@@ -1,4 +1,6 @@
 // The run of a schedule's events. The entry point for callers is run; it refuses bad input and requires nothing.
+#![tactic(auto)]
+
 ghost use Rattle.std.specs.Prelude.{◌≡◌, ◌+◌, ◌*◌, ◌≤◌, length, []};
 ghost use Rattle.playing.specs.Playing.{spelt};
 ghost use Rattle.files.specs.Files.{event_at};

@@ -1,4 +1,6 @@
 // Sets of ranks as 64-bit words, one bit a rank. Smallest, largest and size come from the processor's own bit counts.
+#![tactic(auto)]
+
 ghost use Rattle.std.specs.Prelude.{◌≡◌, Bool, cond, ℕ, ◌+◌, ◌*◌, ◌%◌, ◌^◌, ◌<◌, ◌≤◌, eqb, get_or};
 ghost use Rattle.sets.specs.Sets.{add, below, count, has, largest, meet, minus, none, only, set_of, smallest, union};
 

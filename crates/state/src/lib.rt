@@ -1,4 +1,6 @@
 // A state: the group record with the tables beside it. The entry point for callers is start; it refuses bad input and requires nothing.
+#![tactic(auto)]
+
 ghost use Rattle.std.specs.Prelude.{◌≡◌, ◌≤◌};
 ghost use Rattle.tree.specs.Tree.{fresh, row};
 ghost use Rattle.tree.specs.Forms.{tree_of};

@@ -1,4 +1,6 @@
 // Numbers and letters into a lent buffer. Each function writes from a place on and answers the place after its last byte.
+#![tactic(auto)]
+
 ghost use Rattle.std.specs.Prelude.{◌≡◌, ◌++◌, ◌∷◌, [], ◌+◌, ◌<◌, ◌≤◌, length};
 ghost use Rattle.text.specs.Text.{Wrote, decimal, feed, field};
 

@@ -1,5 +1,7 @@
 // The functions that the benchmark links: a group is started and stepped, by one event or by many at a time. Each refuses bad lengths as a
 // batch does and requires nothing, and both have the contract of one batch: they compute the same.
+#![tactic(auto)]
+
 ghost use Rattle.std.specs.Prelude.{◌≡◌, ◌*◌, ◌≤◌, ◌<◌, length};
 ghost use Rattle.tree.specs.Forms.{tree_of};
 ghost use Rattle.state.specs.States.{own_tree};

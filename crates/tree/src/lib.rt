@@ -1,4 +1,6 @@
 // Views of the tree: who is whose parent once some ranks are marked dead, and the table of parents, mended at each mark.
+#![tactic(auto)]
+
 ghost use Rattle.std.specs.Prelude.{◌≡◌, cond, ◌+◌, ◌<◌, ◌≤◌, eqb, ltb, get_or};
 ghost use Rattle.sets.specs.Sets.{add, below, has, largest, meet, minus, none, set_of, smallest};
 ghost use Rattle.tree.specs.Tree.{children, flat, fresh, half, nobody, parent, row, sized};

@@ -1,5 +1,7 @@
 // Reads calls of mark and climb on views handed in, a case a line, and prints what each answers (script.rt, answer.rt).
 // The model of tests/model made the files stdin and stdout beside src/: random views in every form, damaged tables, numbers in and out of bounds.
+#![tactic(auto)]
+
 mod answer;
 mod script;
 

@@ -1,5 +1,7 @@
 // The pictures of a schedule's end: reads a schedule file from standard input and prints the picture of each living rank's view, or only its
 // refusal, in one write.
+#![tactic(auto)]
+
 use libc::{STDIN_FILENO, STDOUT_FILENO};
 
 // One byte more than the longest file has, so that a longer one is seen.

@@ -1,10 +1,6 @@
 -- `sets::minus` meets its contract: at 64 digits the complement is all digits but b's. Assumes nothing.
 use Rattle.sets.proofs.Laws.Members.{and-not}
-use Rattle.sets.proofs.minus.Statement.{statement}
-use Rattle.sets.proofs.minus.Tie as tie
+use Rattle.sets.proofs.minus.Goals as goal
 
-returns : tie.Need-returns
+pub returns : goal.returns
 returns c = and-not 64 c.args.a c.args.b c.ranges.a.fits c.ranges.b.fits
-
-pub minus-spec : {M : Type 1} → statement M
-minus-spec = tie.close (tie.spec returns)

@@ -4,15 +4,8 @@ use borrow.Author.Rules.{rules}
 use lib.Bits.{bit_or}
 use Rattle.sets.specs.Sets.{add, union, only}
 use Rattle.sets.proofs.Laws.Members.{shifted_one}
-use Rattle.sets.proofs.with.Statement.{statement}
-use Rattle.sets.proofs.with.Tie as tie
+use Rattle.sets.proofs.with.Goals as goal
 
-shl-result : tie.Need-overflow-shl-result
-shl-result c = search rules
-
-returns : tie.Need-returns
+pub returns : goal.returns
 unfolding add union only
 returns c = ap (bit_or c.args.w) (shifted_one 64 c.args.p c.requires)
-
-pub with-spec : {M : Type 1} → statement M
-with-spec = tie.close (tie.spec shl-result returns)

@@ -1,0 +1,70 @@
+-- `sets::places` meets its contract: eight bytes, each of eight flags, are the digits of the set. Assumes nothing.
+use Prim.Native.Nat.{◌+◌}
+use native.Mathlib.Omega.{arith}
+use borrow.Author.Rules.{rules}
+use Rattle.sets.proofs.Laws.Places.{standing, flagged_eight, flagged_small, eight_octets}
+use Rattle.sets.proofs.places.Goals as goal
+
+pub octet-requires-clause-k_bound : goal.octet-requires-clause-k_bound
+octet-requires-clause-k_bound c = omega arith
+
+pub octet-requires-clause-by_index : goal.octet-requires-clause-by_index
+octet-requires-clause-by_index c = flagged_small c.args.row c.args.q c.flags-f.result 0 c.flags-f.ensures (omega arith)
+
+pub octet-requires-2-clause-k_bound : goal.octet-requires-2-clause-k_bound
+octet-requires-2-clause-k_bound c = omega arith
+
+pub octet-requires-2-clause-by_index : goal.octet-requires-2-clause-by_index
+octet-requires-2-clause-by_index c = flagged_small c.args.row c.args.q c.flags-f.result 1 c.flags-f.ensures (omega arith)
+
+pub octet-requires-3-clause-k_bound : goal.octet-requires-3-clause-k_bound
+octet-requires-3-clause-k_bound c = omega arith
+
+pub octet-requires-3-clause-by_index : goal.octet-requires-3-clause-by_index
+octet-requires-3-clause-by_index c = flagged_small c.args.row c.args.q c.flags-f.result 2 c.flags-f.ensures (omega arith)
+
+pub octet-requires-4-clause-k_bound : goal.octet-requires-4-clause-k_bound
+octet-requires-4-clause-k_bound c = omega arith
+
+pub octet-requires-4-clause-by_index : goal.octet-requires-4-clause-by_index
+octet-requires-4-clause-by_index c = flagged_small c.args.row c.args.q c.flags-f.result 3 c.flags-f.ensures (omega arith)
+
+pub octet-requires-5-clause-k_bound : goal.octet-requires-5-clause-k_bound
+octet-requires-5-clause-k_bound c = omega arith
+
+pub octet-requires-5-clause-by_index : goal.octet-requires-5-clause-by_index
+octet-requires-5-clause-by_index c = flagged_small c.args.row c.args.q c.flags-f.result 4 c.flags-f.ensures (omega arith)
+
+pub octet-requires-6-clause-k_bound : goal.octet-requires-6-clause-k_bound
+octet-requires-6-clause-k_bound c = omega arith
+
+pub octet-requires-6-clause-by_index : goal.octet-requires-6-clause-by_index
+octet-requires-6-clause-by_index c = flagged_small c.args.row c.args.q c.flags-f.result 5 c.flags-f.ensures (omega arith)
+
+pub octet-requires-7-clause-k_bound : goal.octet-requires-7-clause-k_bound
+octet-requires-7-clause-k_bound c = omega arith
+
+pub octet-requires-7-clause-by_index : goal.octet-requires-7-clause-by_index
+octet-requires-7-clause-by_index c = flagged_small c.args.row c.args.q c.flags-f.result 6 c.flags-f.ensures (omega arith)
+
+pub octet-requires-8-clause-k_bound : goal.octet-requires-8-clause-k_bound
+octet-requires-8-clause-k_bound c = omega arith
+
+pub octet-requires-8-clause-by_index : goal.octet-requires-8-clause-by_index
+octet-requires-8-clause-by_index c = flagged_small c.args.row c.args.q c.flags-f.result 7 c.flags-f.ensures (omega arith)
+
+pub returns : goal.returns
+returns c = let row = c.args.row in
+    let q = c.args.q in
+    let f = standing row q in
+    let flags = c.flags-f.result in
+    let flagged = c.flags-f.ensures in
+    eight_octets f _ _ _ _ _ _ _ _
+    (c.octet.ensures (λ j. f (0 + j)) (flagged_eight row q flags 0 flagged (omega arith)))
+    (c.octet-2.ensures (λ j. f (8 + j)) (flagged_eight row q flags 1 flagged (omega arith)))
+    (c.octet-3.ensures (λ j. f (16 + j)) (flagged_eight row q flags 2 flagged (omega arith)))
+    (c.octet-4.ensures (λ j. f (24 + j)) (flagged_eight row q flags 3 flagged (omega arith)))
+    (c.octet-5.ensures (λ j. f (32 + j)) (flagged_eight row q flags 4 flagged (omega arith)))
+    (c.octet-6.ensures (λ j. f (40 + j)) (flagged_eight row q flags 5 flagged (omega arith)))
+    (c.octet-7.ensures (λ j. f (48 + j)) (flagged_eight row q flags 6 flagged (omega arith)))
+    (c.octet-8.ensures (λ j. f (56 + j)) (flagged_eight row q flags 7 flagged (omega arith)))
