@@ -1,0 +1,22 @@
+-- `tree::crown` meets its contract. The invariant: the first p entries are handed over, the others are as they were.
+-- Assumes nothing.
+use mathlib.Core.Path.{refl}
+use Prim.Native.Nat.{◌-◌}
+use mathlib.Core.Bool.{cond}
+use lib.Dec.{ltb}
+use lib.ListN.{get_or}
+use Rattle.sets.specs.Sets.{none}
+use borrow.Author.Rules.{rules}
+use Rattle.tree.proofs.Laws.Rows.{Patched}
+use Rattle.tree.proofs.Laws.Mending.{handed_on, handing_start, handing_put, handing_end}
+use Rattle.tree.proofs.crown.Goals as goal
+
+pub loop-p-init : goal.loop-p-init
+loop-p-init c = search handing_start
+
+pub loop-p-preserved : goal.loop-p-preserved
+loop-p-preserved c = let given = c.args in
+    handing_put given.table _ _ given.q (λ k. cond (ltb given.low k) given.low none) _ _ _ c.loop-p.invariant (search rules) c.led.ensures c.handed.ensures refl
+
+pub returns : goal.returns
+returns c = let given = c.args in handing_end given.table _ given.q (λ k. cond (ltb given.low k) given.low none) _ c.loop-p.invariant (search rules)

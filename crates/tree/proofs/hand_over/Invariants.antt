@@ -1,0 +1,15 @@
+-- `tree::hand_over` meets its contract. The invariant: the first p entries are handed over, the others are as they were.
+-- Assumes nothing.
+use mathlib.Core.Path.{refl}
+use Prim.Native.Nat.{◌-◌}
+use lib.ListN.{get_or}
+use borrow.Author.Rules.{rules}
+use Rattle.tree.proofs.Laws.Rows.{Patched}
+use Rattle.tree.proofs.Laws.Mending.{handed_on, handing_start, handing_put, handing_end}
+use Rattle.tree.proofs.hand_over.Given as goal
+
+abbrev pub invariant-loop-p : goal.invariant-loop-p
+invariant-loop-p l = Patched 0 (handed_on l.initial.table l.q (λ k. l.up)) (λ k. get_or l.initial.table k 0) 64 l.p l.table
+
+abbrev pub decreases-loop-p : goal.decreases-loop-p
+decreases-loop-p l = 64 - l.p
