@@ -13,7 +13,7 @@ const MOST: usize = 1024;
 
 // What the calls for the first parts have told and left: the first answer that is not 0, the places beside those of the whole run, how many
 // places past them were written to, and the state.
-#[derive(Drop)]
+#[derive(Clone, Copy)]
 struct Told {
     answer: u32,
     places: Sums,

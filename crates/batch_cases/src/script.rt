@@ -1,7 +1,7 @@
 // The numbers of a text, and where a case has which.
 
 // A case: what its first line says, and where its lists begin and end.
-#[derive(Drop)]
+#[derive(Clone, Copy)]
 pub struct Case {
     pub size: u32,
     pub form: u32,
@@ -16,7 +16,7 @@ pub struct Case {
 }
 
 // The number that is read, whether one is, and how many are done.
-#[derive(Drop)]
+#[derive(Clone, Copy)]
 struct Reader {
     value: u32,
     inside: bool,

@@ -4,7 +4,7 @@ use super::script::{number, plus};
 use rank::{Message, Rank, Triple};
 use state::State;
 
-#[derive(Drop)]
+#[derive(Clone, Copy)]
 pub struct Sums {
     pub a: u32,
     pub b: u32,

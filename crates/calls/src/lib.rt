@@ -9,7 +9,7 @@ ghost use Rattle.calls.specs.Calls.{climbed, climbing, marked, mark_refused, mis
 use tree::Moved;
 
 // The answer of mark: a refusal number, or 0 with the new view, its table and moved.
-#[derive(Drop)]
+#[derive(Clone, Copy)]
 pub struct Marked {
     pub answer: u32,
     pub marks: u64,
@@ -18,7 +18,7 @@ pub struct Marked {
 }
 
 // The answer of climb: the root or the rank reached, with the links climbed; or why nothing was climbed.
-#[derive(Drop)]
+#[derive(Clone, Copy)]
 pub enum Climbed {
     Root(u8, u32),
     Short(u8, u32),

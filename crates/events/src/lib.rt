@@ -16,7 +16,7 @@ pub const LOSES: u32 = 5;
 
 pub const ACKNOWLEDGES: u32 = 6;
 
-#[derive(Drop)]
+#[derive(Clone, Copy)]
 pub struct Event {
     pub kind: u32,
     pub a: u32,

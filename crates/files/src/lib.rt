@@ -7,7 +7,7 @@ ghost use Rattle.files.specs.Files.{broken, event_at, events_in, header, number_
 use events::Event;
 
 // What a file's first bytes and its length say: the group's size and the number of events, or what is wrong.
-#[derive(Drop)]
+#[derive(Clone, Copy)]
 pub enum Header {
     Good(u8, u32),
     NoHeader,

@@ -17,7 +17,7 @@ use state::{Group, State};
 use tree::Moved;
 
 // The answer of event: the number, how many messages were sent, which ranks moved, and the state.
-#[derive(Drop)]
+#[derive(Clone, Copy)]
 pub struct Stepped {
     pub answer: u32,
     pub sent: u32,

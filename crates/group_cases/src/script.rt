@@ -3,7 +3,7 @@
 use super::show::echo;
 
 // Whether the reader is in braces, whether it is in a number, and the last seven numbers.
-#[derive(Drop)]
+#[derive(Clone, Copy)]
 pub struct Reader {
     pub hidden: bool,
     pub inside: bool,
@@ -17,7 +17,7 @@ pub struct Reader {
 }
 
 // The events accepted since the last start, and what they sent and moved.
-#[derive(Drop)]
+#[derive(Clone, Copy)]
 pub struct Totals {
     pub accepted: u32,
     pub sent: u32,

@@ -9,7 +9,7 @@ ghost use Rattle.net.specs.Net.{joining, message_of, messages_of, padded, placed
 use rank::{Message, Send, Triple};
 
 // How many messages are in flight once some have left and joined, and how many have joined.
-#[derive(Drop)]
+#[derive(Clone, Copy)]
 pub struct Forwarded {
     pub count: u8,
     pub sent: u32,

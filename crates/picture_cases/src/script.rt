@@ -1,7 +1,7 @@
 // Cases, byte by byte. A line is a word, of which the first letter counts, and numbers with a space before each:
 //   write N MARKS ROOM
 //   read LENGTH, and after the line so many bytes
-#[derive(Drop)]
+#[derive(Clone, Copy)]
 pub struct Reader {
     pub letter: u8,
     pub numbers: [u64; 3],

@@ -15,14 +15,14 @@ use text::put_letters;
 const ROOM: usize = 3352;
 
 // The answer of write: a refusal number, or 0 with the length of the text.
-#[derive(Drop)]
+#[derive(Clone, Copy)]
 pub struct Written {
     pub answer: u32,
     pub length: usize,
 }
 
 // The answer of read: 31, or 0 with the view.
-#[derive(Drop)]
+#[derive(Clone, Copy)]
 pub struct Viewed {
     pub answer: u32,
     pub n: u32,

@@ -12,7 +12,7 @@ use rank::{Acted, DOWN, Message, Rank, Send, UP};
 use tree::Moved;
 
 // What an event will change: whether its message leaves, whether its rank dies, and what that rank does.
-#[derive(Drop)]
+#[derive(Clone, Copy)]
 pub struct Plan {
     pub answer: u32,
     pub leaves: bool,

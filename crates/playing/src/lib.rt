@@ -11,7 +11,7 @@ use rank::{Message, Rank};
 use state::{Group, State};
 
 // The answer of a run, with the final group and its tables.
-#[derive(Drop)]
+#[derive(Clone, Copy)]
 pub struct Ran {
     pub answer: u32,
     pub state: State,

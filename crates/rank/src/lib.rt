@@ -32,7 +32,7 @@ pub const DOWN: u8 = 2;
 pub const ASK: u8 = 3;
 
 // What ranks vote on: a word, a set of known dead, and an acknowledged set.
-#[derive(Drop)]
+#[derive(Clone, Copy)]
 pub struct Triple {
     pub word: u32,
     pub known: u64,
@@ -40,7 +40,7 @@ pub struct Triple {
 }
 
 // What a rank holds; its row of the tables travels beside it.
-#[derive(Drop)]
+#[derive(Clone, Copy)]
 pub struct Rank {
     pub phase: u8,
     pub marks: u64,
@@ -53,7 +53,7 @@ pub struct Rank {
 }
 
 // One message in flight.
-#[derive(Drop)]
+#[derive(Clone, Copy)]
 pub struct Message {
     pub kind: u8,
     pub from: u8,
@@ -62,7 +62,7 @@ pub struct Message {
 }
 
 // One message for each rank of a set, in ascending order.
-#[derive(Drop)]
+#[derive(Clone, Copy)]
 pub struct Send {
     pub kind: u8,
     pub triple: Triple,
@@ -70,14 +70,14 @@ pub struct Send {
 }
 
 // A rank after a part of a rule, and what that part sends.
-#[derive(Drop)]
+#[derive(Clone, Copy)]
 pub struct Said {
     pub rank: Rank,
     pub send: Send,
 }
 
 // A rank after a rule: its row, the rule's own send, then settle's, and moved.
-#[derive(Drop)]
+#[derive(Clone, Copy)]
 pub struct Acted {
     pub rank: Rank,
     pub row: [u8; 64],

@@ -2,7 +2,7 @@
 // other words it has is for the reader. Any other line is a heading, and is printed.
 use super::show::text;
 
-#[derive(Drop)]
+#[derive(Clone, Copy)]
 pub struct Command {
     pub open: bool,
     pub letter: u8,

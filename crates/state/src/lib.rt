@@ -12,7 +12,7 @@ use rank::{Message, Rank, Triple};
 
 // The group record: its size, the form and the box size of its tree, how many messages are in flight, the dead, the ranks and the messages. The
 // small fields come first, so that no gap lies beside an array.
-#[derive(Drop)]
+#[derive(Clone, Copy)]
 pub struct Group {
     pub n: u8,
     pub form: u8,
@@ -24,14 +24,14 @@ pub struct Group {
 }
 
 // The group record with the tables beside it, one row for each rank's view.
-#[derive(Drop)]
+#[derive(Clone, Copy)]
 pub struct State {
     pub group: Group,
     pub tables: [[u8; 64]; 64],
 }
 
 // The answer of start.
-#[derive(Drop)]
+#[derive(Clone, Copy)]
 pub struct Started {
     pub answer: u32,
     pub state: State,

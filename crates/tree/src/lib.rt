@@ -15,14 +15,14 @@ pub const STAR: u8 = 1;
 pub const NESTED: u8 = 2;
 
 // The unmarked ranks that moved, and how many; of several marks the union and the sum.
-#[derive(Drop)]
+#[derive(Clone, Copy)]
 pub struct Moved {
     pub ranks: u64,
     pub count: u32,
 }
 
 // A view with its table, and what the marking moved.
-#[derive(Drop)]
+#[derive(Clone, Copy)]
 pub struct Mended {
     pub marks: u64,
     pub table: [u8; 64],

@@ -3,7 +3,7 @@
 //   mark N FORM BOX MARKS RANK T0 .. T63
 //   who N FORM BOX MARKS RANK T0 .. T63
 
-#[derive(Drop)]
+#[derive(Clone, Copy)]
 pub struct Reader {
     pub letter: u8,
     pub numbers: [u64; 69],

@@ -13,4 +13,4 @@ put_number-requires c = omega (arith, wrote_room 1 10 c.put_byte-next.ensures (o
 
 pub returns : goal.returns
 unfolding field
-returns c = wrote_then c.put_byte-next.ensures c.put-number.ensures
+returns c = wrote_then c.put_byte-next.ensures c.put_number.ensures

@@ -6,10 +6,10 @@ use Rattle.text.proofs.Laws.Digits.{length-field}
 use Rattle.text.proofs.put_three.Goals as goal
 
 pub put_field-third-requires : goal.put_field-third-requires
-put_field-third-requires c = omega (arith, wrote_room 11 23 c.put-field.ensures (length-field _) c.requires)
+put_field-third-requires c = omega (arith, wrote_room 11 23 c.put_field-second.ensures (length-field _) c.requires)
 
 pub put_end-requires : goal.put_end-requires
-put_end-requires c = omega (arith, wrote_room 11 12 c.put-field2.ensures (length-field _) (wrote_room 11 23 c.put-field.ensures (length-field _) c.requires))
+put_end-requires c = omega (arith, wrote_room 11 12 c.put_field-third.ensures (length-field _) (wrote_room 11 23 c.put_field-second.ensures (length-field _) c.requires))
 
 pub returns : goal.returns
-returns c = wrote_then c.put-field.ensures (wrote_then c.put-field2.ensures c.put-end.ensures)
+returns c = wrote_then c.put_field-second.ensures (wrote_then c.put_field-third.ensures c.put_end.ensures)

@@ -1,0 +1,36 @@
+-- `tree::mark_view` meets its contract: at each return the tests on the way pick the definition's case. Assumes nothing.
+use borrow.Author.Rules.{rules}
+use Rattle.tree.proofs.Laws.Calls.{checked_fresh}
+use Rattle.calls.proofs.Laws.Shapes.{view-le, view_boxed, view_rank_fits}
+use Rattle.calls.proofs.Laws.Calls.{mark-outside, mark_stale, mark_wrong_rank, mark-accepted}
+use Rattle.calls.proofs.mark_view.Goals as goal
+
+pub below-requires : goal.below-requires
+below-requires c = search view-le
+
+pub returns-then-minus-ne0 : goal.returns-then-minus-ne0
+returns-then-minus-ne0 c = search mark-outside
+
+pub fresh-requires-clause-span_nonzero : goal.fresh-requires-clause-span_nonzero
+fresh-requires-clause-span_nonzero c = search view_boxed
+
+pub fresh-requires-clause-n_bound : goal.fresh-requires-clause-n_bound
+fresh-requires-clause-n_bound c = search view-le
+
+pub returns-then-not-same : goal.returns-then-not-same
+returns-then-not-same c = search mark_stale
+
+pub returns-then-n-q : goal.returns-then-n-q
+returns-then-n-q c = search mark_wrong_rank
+
+pub overflow_cast-q : goal.overflow_cast-q
+overflow_cast-q c = search view_rank_fits
+
+pub mend-m-requires-clause-n_bound : goal.mend-m-requires-clause-n_bound
+mend-m-requires-clause-n_bound c = search view-le
+
+pub mend-m-requires-clause-table_value : goal.mend-m-requires-clause-table_value
+mend-m-requires-clause-table_value c = checked_fresh _ _ _ _ _ _ c.fresh.ensures c.same.ensures c.if-not-same.false-raw
+
+pub returns : goal.returns
+returns c = search mark-accepted
