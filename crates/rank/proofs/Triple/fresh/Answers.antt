@@ -1,0 +1,8 @@
+-- `Triple::fresh` meets its contract. Assumes nothing.
+use borrow.Author.Rules.{rules}
+use Rattle.rank.specs.Triples.{fresh_triple}
+use Rattle.rank.proofs.Triple.fresh.Goals as goal
+
+pub returns : goal.returns
+unfolding fresh_triple
+returns c = rw c.below.ensures

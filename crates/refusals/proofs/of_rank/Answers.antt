@@ -1,0 +1,39 @@
+-- `of_rank` meets its contract: the tests on the way pick the definition's case. Assumes nothing.
+use Prim.Native.Nat.{◌<◌}
+use native.Mathlib.Omega.{arith}
+use borrow.Author.Rules.{rules}
+use Rattle.refusals.proofs.Laws.Refusing.{rank_below, told_below, rank_4, rank_6, rank-outside, rank-notice, rank_crash}
+use Rattle.refusals.proofs.of_rank.Goals as goal
+
+pub returns-then-wrong_rank : goal.returns-then-wrong_rank
+returns-then-wrong_rank c = search rank_4
+
+pub overflow_cast-ev : goal.overflow_cast-ev
+overflow_cast-ev c = let l : c.args.ev.a < c.args.n = search rank_below in omega arith
+
+pub member-requires : goal.member-requires
+member-requires c = let l : c.args.ev.a < c.args.n = search rank_below in omega arith
+
+pub returns-then-member : goal.returns-then-member
+returns-then-member c = search rank_6
+
+pub returns-then-ev : goal.returns-then-ev
+returns-then-ev c = search rank-outside
+
+pub overflow_cast-ev-then-ev-eq-NOTICES : goal.overflow_cast-ev-then-ev-eq-NOTICES
+overflow_cast-ev-then-ev-eq-NOTICES c = let l : c.args.ev.b < c.args.n = search told_below in omega arith
+
+pub of_notice-requires : goal.of_notice-requires
+of_notice-requires c = let l : c.args.ev.b < c.args.n = search told_below in omega arith
+
+pub returns-then-ev-eq-NOTICES : goal.returns-then-ev-eq-NOTICES
+returns-then-ev-eq-NOTICES c = search rank-notice
+
+pub overflow_cast-ev-2 : goal.overflow_cast-ev-2
+overflow_cast-ev-2 c = let l : c.args.ev.a < c.args.n = search rank_below in omega arith
+
+pub of_crash-requires-clause-p_bound : goal.of_crash-requires-clause-p_bound
+of_crash-requires-clause-p_bound c = let l : c.args.ev.a < c.args.n = search rank_below in omega arith
+
+pub returns : goal.returns
+returns c = search rank_crash
