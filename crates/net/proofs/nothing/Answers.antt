@@ -1,0 +1,6 @@
+-- `nothing` meets its contract: every field is 0. Assumes nothing.
+use borrow.Author.Rules.{rules}
+use Rattle.net.proofs.nothing.Goals as goal
+
+pub returns : goal.returns
+returns c = rw c.zero.ensures
