@@ -1,0 +1,29 @@
+-- `net_order` meets its contract. The invariant: every place before i passes. Assumes nothing.
+use Prim.Native.Nat.{ℕ, ◌≤◌, ◌<◌, ◌-◌}
+use borrow.Author.Rules.{rules}
+use lib.ListN.{get_or}
+use mathlib.Core.Bool.{Bool, true}
+use mathlib.Core.List.{List}
+use mathlib.Core.Path.{◌≡◌}
+use native.Mathlib.Omega.{arith}
+use Rattle.rank.specs.declared.Message.{Message}
+use Rattle.net.specs.Net.{zero_message}
+use Rattle.order.proofs.Laws.Ordering.{every_stops, every-ends, every_more}
+use Rattle.order.specs.Order.{place_in_order}
+use Rattle.order.proofs.places_in_order.Invariants.{test}
+use Rattle.order.proofs.places_in_order.Goals as goal
+
+pub loop-i-init : goal.loop-i-init
+loop-i-init c = (omega arith, λ k l. absurd (omega arith))
+
+pub returns-then-not-place_in_order-clause-value : goal.returns-then-not-place_in_order-clause-value
+returns-then-not-place_in_order-clause-value c = let a = c.args in
+    every_stops (test a.n a.dead a.count a.net) 128 c.loop-i.i c.place_in_order.result c.loop-i-test.true c.place_in_order.ensures c.if-not-place_in_order.true-raw
+
+pub loop-i-preserved : goal.loop-i-preserved
+loop-i-preserved c = let a = c.args in
+    (omega arith, every_more (test a.n a.dead a.count a.net) c.loop-i.i c.place_in_order.result c.loop-i.invariant.1 c.place_in_order.ensures c.if-not-place_in_order.false-raw)
+
+pub returns-clause-value : goal.returns-clause-value
+returns-clause-value c = let a = c.args in
+    every-ends (test a.n a.dead a.count a.net) 128 c.loop-i.i c.loop-i-test.false c.loop-i.invariant.1

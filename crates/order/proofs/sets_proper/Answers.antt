@@ -1,0 +1,6 @@
+-- `sets_proper` meets its contract. Assumes nothing.
+use borrow.Author.Rules.{rules}
+use Rattle.order.proofs.sets_proper.Goals as goal
+
+pub returns : goal.returns
+returns c = rw (c.proper.ensures, c.proper-2.ensures, c.proper-3.ensures, c.proper-4.ensures)
