@@ -1,0 +1,6 @@
+-- `buried` meets its contract. Assumes nothing.
+use borrow.Author.Rules.{rules}
+use Rattle.group.proofs.buried.Goals as goal
+
+pub returns-then-dies : goal.returns-then-dies
+returns-then-dies c = rw c.if-dies.true c.with.ensures
