@@ -6,7 +6,7 @@ use contract.Lifetimes.{Lfts}
 use Rattle.sets.proofs.Laws.Alike.{alike}
 use Rattle.playing.specs.declared.Ran.{Ran}
 use Rattle.playing.proofs.Determined.{ran_alike}
-use Rattle.batches.proofs.Terms as batch
+use Rattle.batches.proofs.batch.Reads as batch
 use Rattle.batches.proofs.lend.Reads as lend
 
 -- The answer, the slice and the state.

@@ -1,6 +1,4 @@
 pub mod Laws
-pub mod Held
-pub mod Terms
 pub mod Batching
 pub mod Cases
 pub mod Determined

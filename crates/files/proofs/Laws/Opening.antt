@@ -8,14 +8,11 @@ use native.Mathlib.Omega.{arith}
 use lib.Dec.{eqb, ltb}
 use lib.ListN.{length, get_or, take}
 use lib.Seq.{length-take-le, get_or-take}
-use types.Run.{OneOf, miss}
-use denote.Enum.Declared as Declared
 use borrow.Author.Tests.{eqb-true, ltb-false, lt-ltb, le-ltb, not-false}
 use Rattle.sets.proofs.Laws.Bools.{passes_or_fails, clash}
 use Rattle.tree.specs.Calls.{wrong_size}
 use Rattle.files.specs.declared.Header.{Header}
 use Rattle.files.specs.declared.Header.TheVariants.{Good, NoHeader, WrongMark, WrongVersion, WrongSize, TooLong, Broken}
-use Rattle.files.specs.contracts.Header as Shape
 use Rattle.files.specs.Files.{longest, byte_at, short_at, wrong_mark, wrong_version, broken, events_in, header, number_of}
 
 -- What a good header promises.
@@ -141,15 +138,12 @@ long-start file n l m =
     let e : length (take n file) ≡ n = length-take-le n file m in
     long_same (take n file) file (omega arith) (omega arith) (λ i k. get_or-take n file i 0 (omega arith))
 
--- What the code knows where a header is not good: its place among the cases.
-abbrev pub bad_tags : List ℕ
-bad_tags = 1 ∷ 2 ∷ 3 ∷ 4 ∷ 5 ∷ 6 ∷ []
-
-pub tag_bad : (h : Header) → OneOf bad_tags (Declared.tag_of Shape.the_type h) → goodness h ≡ false
-tag_bad (Good n t) k = absurd (miss bad_tags 0 tt k)
-tag_bad NoHeader k = refl
-tag_bad WrongMark k = refl
-tag_bad WrongVersion k = refl
-tag_bad WrongSize k = refl
-tag_bad TooLong k = refl
-tag_bad Broken k = refl
+-- What the code knows where a header is not good: that it is none that is.
+pub not_good : (h : Header) → ((n total : ℕ) → h ≡ Good n total → ⊥) → goodness h ≡ false
+not_good (Good n t) k = absurd (k n t refl)
+not_good NoHeader k = refl
+not_good WrongMark k = refl
+not_good WrongVersion k = refl
+not_good WrongSize k = refl
+not_good TooLong k = refl
+not_good Broken k = refl
