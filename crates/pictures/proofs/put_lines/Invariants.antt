@@ -1,0 +1,15 @@
+-- `put_lines` meets its contract: before the line of p those of the ranks below p stand. Assumes nothing.
+use mathlib.Core.Bool.{cond}
+use Prim.Native.Nat.{◌-◌}
+use borrow.Author.Rules.{rules}
+use Rattle.text.proofs.Laws.Writing.{wrote_kept}
+use Rattle.text.proofs.Laws.Lines.{Lining, lining_room, lining_step, lining_end}
+use Rattle.dot.specs.Dot.{node_line, edge_line}
+use Rattle.pictures.proofs.Laws.Room.{lines_start}
+use Rattle.pictures.proofs.put_lines.Given as goal
+
+abbrev pub invariant-loop-p : goal.invariant-loop-p
+invariant-loop-p l = Lining (λ q. cond l.edges (edge_line l.marks q) (node_line l.marks q)) 26 l.n l.initial.text l.at l.text l.next l.p
+
+abbrev pub decreases-loop-p : goal.decreases-loop-p
+decreases-loop-p l = l.n - l.p
