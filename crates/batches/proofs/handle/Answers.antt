@@ -1,5 +1,4 @@
 -- `handle` meets its contract: 40, 41, or the events one after the other. Assumes nothing.
-use borrow.Author.Rules.{rules}
 use Rattle.batches.proofs.Laws.Handling.{batch-uneven, batch_short, batch_taken}
 use Rattle.batches.proofs.handle.Goals as goal
 

@@ -1,9 +1,6 @@
 -- `refuse_each` meets its contract: the first k events are answered. Assumes nothing.
-use borrow.Author.Rules.{rules}
-use Prim.Native.Nat.{◌-◌}
 use mathlib.Core.Path.{refl}
-use Rattle.events.specs.Events.{event_of}
-use Rattle.playing.proofs.Laws.Spelling.{Spelling, spelling_start, spelling_room, spelling_on, spelling_end}
+use Rattle.playing.proofs.Laws.Spelling.{spelling_start, spelling_room, spelling_on, spelling_end}
 use Rattle.batches.proofs.refuse_each.Goals as goal
 
 pub loop-k-init : goal.loop-k-init

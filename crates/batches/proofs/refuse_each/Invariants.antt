@@ -1,9 +1,7 @@
 -- `refuse_each` meets its contract: the first k events are answered. Assumes nothing.
-use borrow.Author.Rules.{rules}
 use Prim.Native.Nat.{◌-◌}
-use mathlib.Core.Path.{refl}
 use Rattle.events.specs.Events.{event_of}
-use Rattle.playing.proofs.Laws.Spelling.{Spelling, spelling_start, spelling_room, spelling_on, spelling_end}
+use Rattle.playing.proofs.Laws.Spelling.{Spelling}
 use Rattle.batches.proofs.refuse_each.Given as goal
 
 abbrev pub invariant-loop-k : goal.invariant-loop-k

@@ -1,9 +1,6 @@
 -- `spell` meets its contract: the first k events stand at their places. Assumes nothing.
-use borrow.Author.Rules.{rules}
-use Prim.Native.Nat.{◌-◌}
 use native.Mathlib.Omega.{arith}
-use Rattle.playing.specs.Playing.{event_in}
-use Rattle.playing.proofs.Laws.Spelling.{Spelling, spelling_start, spelling_room, spelling_on, spelling_end}
+use Rattle.playing.proofs.Laws.Spelling.{spelling_start, spelling_room, spelling_on, spelling_end}
 use Rattle.batches.proofs.spell.Goals as goal
 
 pub loop-k-init : goal.loop-k-init

@@ -1,5 +1,4 @@
 -- `step_each` meets its contract: each event is refused alike, or all are played. Assumes nothing.
-use borrow.Author.Rules.{rules}
 use Rattle.group.proofs.Laws.Events.{in_order_from}
 use Rattle.playing.proofs.Laws.Slices.{spelt-room}
 use Rattle.batches.proofs.Laws.Handling.{each_wrong_size, each_disordered, each-played}

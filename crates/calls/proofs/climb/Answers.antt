@@ -1,5 +1,4 @@
 -- `tree::climb` meets its contract: at each return the tests on the way pick the definition's case. Assumes nothing.
-use borrow.Author.Rules.{rules}
 use Rattle.calls.proofs.Laws.Shapes.{shape-le, box_pos, shape_fits, form_fits, box_fits, rank_fits, rank_lt}
 use Rattle.calls.proofs.Laws.Calls.{number-known, climb-misshapen, climb_wrong_rank, climb_from_marked, climb-unmarked}
 use Rattle.calls.proofs.climb.Goals as goal

@@ -1,11 +1,8 @@
 -- `tree::climb_from` meets its contract. The invariant: what is left of the path is that of the rank reached. The measure is that
 -- rank, as a parent is smaller. Assumes nothing.
 use Prim.Native.Nat.{◌≤◌}
-use native.Mathlib.Omega.{arith}
-use borrow.Author.Rules.{rules}
 use Rattle.tree.specs.Forms.{tree_of}
-use Rattle.tree.proofs.Laws.Climbing.{Climbing, climbing-start, climbing-step, climbing_less}
-use Rattle.calls.proofs.Laws.Climbing.{climbing-root, climbing_short}
+use Rattle.tree.proofs.Laws.Climbing.{Climbing}
 use Rattle.calls.proofs.climb_from.Given as goal
 
 abbrev pub invariant-loop-form : goal.invariant-loop-form

@@ -1,5 +1,4 @@
 -- `tree::mark` meets its contract: 1, 50 and 51 come before the view is looked at. Assumes nothing.
-use borrow.Author.Rules.{rules}
 use Rattle.calls.proofs.Laws.Shapes.{shape-zero, shape_fits, form_fits, box_fits}
 use Rattle.calls.proofs.Laws.Calls.{mark-misshapen}
 use Rattle.calls.proofs.mark.Goals as goal

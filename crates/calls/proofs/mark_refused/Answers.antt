@@ -1,5 +1,4 @@
 -- `tree::mark_refused` meets its contract: the record is the definition's. Assumes nothing.
-use borrow.Author.Rules.{rules}
 use Rattle.calls.specs.Calls.{mark_refused}
 use Rattle.calls.proofs.mark_refused.Goals as goal
 

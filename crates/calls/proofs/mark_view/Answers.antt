@@ -1,5 +1,4 @@
 -- `tree::mark_view` meets its contract: at each return the tests on the way pick the definition's case. Assumes nothing.
-use borrow.Author.Rules.{rules}
 use Rattle.tree.proofs.Laws.Calls.{checked_fresh}
 use Rattle.calls.proofs.Laws.Shapes.{view-le, view_boxed, view_rank_fits}
 use Rattle.calls.proofs.Laws.Calls.{mark-outside, mark_stale, mark_wrong_rank, mark-accepted}

@@ -1,5 +1,4 @@
 -- `tree::misshapen` meets its contract: the tests on the way pick the number. Assumes nothing.
-use borrow.Author.Rules.{rules}
 use Rattle.calls.proofs.Laws.Shapes.{size_number, box_number, form_number, no_number}
 use Rattle.calls.proofs.misshapen.Goals as goal
 

@@ -1,5 +1,4 @@
 -- `put_edge` meets its contract: one piece after the other, 26 bytes at most. Assumes nothing.
-use borrow.Author.Rules.{rules}
 use native.Mathlib.Omega.{arith}
 use Rattle.text.proofs.Laws.Writing.{wrote_then, wrote_room}
 use Rattle.text.proofs.Laws.Digits.{length-decimal}

@@ -1,5 +1,4 @@
 -- `put_edge_line` meets its contract: one test. Assumes nothing.
-use borrow.Author.Rules.{rules}
 use Rattle.dot.proofs.Laws.Lines.{edge_none, edge-some}
 use Rattle.dot.proofs.put_edge_line.Goals as goal
 

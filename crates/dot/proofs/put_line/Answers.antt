@@ -1,5 +1,4 @@
 -- `put_line` meets its contract: one test. Assumes nothing.
-use borrow.Author.Rules.{rules}
 use Rattle.dot.proofs.Laws.Lines.{line-edge, line_node}
 use Rattle.dot.proofs.put_line.Goals as goal
 

@@ -1,5 +1,4 @@
 -- `put_node_line` meets its contract: two tests, and one piece after the other, 24 bytes at most. Assumes nothing.
-use borrow.Author.Rules.{rules}
 use native.Mathlib.Omega.{arith}
 use Rattle.text.proofs.Laws.Writing.{wrote_room}
 use Rattle.text.proofs.Laws.Digits.{length-decimal}

@@ -1,5 +1,4 @@
 -- `draw` meets its contract: the pictures of its ranks. Assumes nothing.
-use borrow.Author.Rules.{rules}
 use Rattle.drawing.specs.Drawings.{rank_pictures}
 use Rattle.drawing.proofs.draw.Goals as goal
 

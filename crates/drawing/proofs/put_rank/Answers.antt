@@ -1,5 +1,4 @@
 -- `put_rank` meets its contract: one test. Assumes nothing.
-use borrow.Author.Rules.{rules}
 use Rattle.drawing.proofs.Laws.Drawing.{rank_dead, rank-living}
 use Rattle.drawing.proofs.put_rank.Goals as goal
 

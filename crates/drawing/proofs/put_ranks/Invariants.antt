@@ -1,14 +1,10 @@
 -- `put_ranks` meets its contract: before rank i the pictures of the ranks below i stand. Assumes nothing.
 use Prim.Native.Nat.{◌-◌}
-use native.Mathlib.Omega.{arith}
 use lib.ListN.{get_or}
-use borrow.Author.Rules.{rules}
 use Rattle.state.specs.States.{zero_rank}
-use Rattle.text.proofs.Laws.Writing.{wrote_kept}
-use Rattle.text.proofs.Laws.Lines.{Lining, lining_start, lining_room, lining_step, lining_end}
+use Rattle.text.proofs.Laws.Lines.{Lining}
 use Rattle.pictures.specs.Pictures.{picture_room}
 use Rattle.drawing.specs.Drawings.{rank_picture}
-use Rattle.drawing.proofs.Laws.Drawing.{length-rank}
 use Rattle.drawing.proofs.put_ranks.Given as goal
 
 abbrev pub invariant-loop-i : goal.invariant-loop-i

@@ -1,7 +1,6 @@
 -- `report` meets its contract: a refused run has its one line, an accepted one its pictures. Assumes nothing.
 use mathlib.Core.Path.{sym}
 use lib.Seq.{length-take-le}
-use borrow.Author.Rules.{rules}
 use Rattle.schedule.proofs.Laws.Ending.{run-ended}
 use Rattle.drawing.proofs.Laws.Drawing.{drawing-refused, drawing_drawn}
 use Rattle.drawing.proofs.report.Goals as goal

@@ -1,6 +1,5 @@
 -- `broken` meets its contract: its test is the definition's. Assumes nothing.
 use mathlib.Core.Path.{refl}
-use borrow.Author.Rules.{rules}
 use Rattle.files.specs.Files.{broken}
 use Rattle.files.proofs.broken.Goals as goal
 

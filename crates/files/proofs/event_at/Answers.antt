@@ -1,6 +1,5 @@
 -- `event_at` meets its contract. Assumes nothing.
 use Prim.Native.Nat.{◌+◌, ◌*◌}
-use borrow.Author.Rules.{rules}
 use native.Mathlib.Omega.{arith}
 use Rattle.files.specs.Files.{event_at, byte_at}
 use Rattle.files.proofs.event_at.Goals as goal

@@ -1,6 +1,5 @@
 -- `events_in` meets its contract: its expression is the definition's. Assumes nothing.
 use mathlib.Core.Path.{refl}
-use borrow.Author.Rules.{rules}
 use Rattle.files.specs.Files.{events_in}
 use Rattle.files.proofs.events_in.Goals as goal
 

@@ -1,5 +1,4 @@
 -- `number_at` meets its contract: its halves are below 65,536. Assumes nothing.
-use borrow.Author.Rules.{rules}
 use native.Mathlib.Omega.{arith}
 use Rattle.files.specs.Files.{number_at}
 use Rattle.files.proofs.number_at.Goals as goal

@@ -1,5 +1,4 @@
 -- `number_of` meets its contract: one number for each case. Assumes nothing.
-use borrow.Author.Rules.{rules}
 use Rattle.files.specs.Files.{number_of}
 use Rattle.files.proofs.number_of.Goals as goal
 

@@ -1,5 +1,4 @@
 -- `read_header` meets its contract: at each return the tests on the way pick the definition's case. Assumes nothing.
-use borrow.Author.Rules.{rules}
 use native.Mathlib.Omega.{arith}
 use Rattle.files.proofs.Laws.Files.{header-none, header-mark, header_version, header-size, header-long, header-broken, header_good}
 use Rattle.files.proofs.read_header.Goals as goal

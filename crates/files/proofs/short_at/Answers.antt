@@ -1,6 +1,5 @@
 -- `short_at` meets its contract: bytes are below 256. Assumes nothing.
 use Prim.Native.Nat.{◌+◌}
-use borrow.Author.Rules.{rules}
 use mathlib.Core.Path.{refl}
 use native.Mathlib.Omega.{arith}
 use Rattle.files.specs.Files.{short_at, byte_at}

@@ -1,5 +1,4 @@
 -- `wrong_mark` meets its contract. Assumes nothing.
-use borrow.Author.Rules.{rules}
 use mathlib.Core.Path.{refl}
 use Rattle.files.specs.Files.{wrong_mark, byte_at}
 use Rattle.files.proofs.wrong_mark.Goals as goal

@@ -6,7 +6,6 @@ use Rattle.calls.proofs.Laws.Shapes.{shapely}
 use Rattle.rank.proofs.Facts.{MemberInOrder}
 use Rattle.state.specs.declared.State.{State}
 use Rattle.state.specs.States.{rank_at, row_at}
-use Rattle.state.specs.Starting.{started}
 use Rattle.state.proofs.Laws.Starting.{started-fresh, fresh-size}
 use Rattle.order.specs.Between.{InOrder}
 use Rattle.order.proofs.Laws.Ordering.{in_order_facts}

@@ -1,5 +1,4 @@
 -- `buried` meets its contract. Assumes nothing.
-use borrow.Author.Rules.{rules}
 use Rattle.group.proofs.buried.Goals as goal
 
 pub returns-then-dies : goal.returns-then-dies

@@ -1,5 +1,4 @@
 -- `carry` meets its contract: carrying a plan out is the definition. Assumes nothing.
-use borrow.Author.Rules.{rules}
 use mathlib.Core.Path.{◌∙◌}
 use Rattle.group.proofs.Laws.Stepping.{carry_posts, carry-posted, carry-applied}
 use Rattle.group.proofs.carry.Goals as goal

@@ -1,5 +1,4 @@
 -- `event` meets its contract: at each return the tests on the way pick the definition's case. Assumes nothing.
-use borrow.Author.Rules.{rules}
 use Rattle.group.proofs.Laws.Events.{event_wrong_size, event_disordered, event_steps, in_order_from}
 use Rattle.group.proofs.event.Goals as goal
 

@@ -1,5 +1,4 @@
 -- `plan_of` meets its contract: from a state in order the plan is ready to be made. Assumes nothing.
-use borrow.Author.Rules.{rules}
 use Rattle.group.proofs.Laws.Stepping.{subject-below, step_ready, plan_is}
 use Rattle.group.proofs.plan_of.Goals as goal
 

@@ -1,5 +1,4 @@
 -- `post` meets its contract. Assumes nothing.
-use borrow.Author.Rules.{rules}
 use Rattle.group.specs.Events.{posted}
 use Rattle.group.proofs.post.Goals as goal
 

@@ -1,5 +1,4 @@
 -- `refused` meets its contract: the record is the definition's. Assumes nothing.
-use borrow.Author.Rules.{rules}
 use Rattle.group.specs.Events.{refused}
 use Rattle.group.proofs.refused.Goals as goal
 

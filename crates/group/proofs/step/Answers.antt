@@ -1,5 +1,4 @@
 -- `step` meets its contract: a refused plan hands the state back, an accepted one is carried out. Assumes nothing.
-use borrow.Author.Rules.{rules}
 use Rattle.group.proofs.Laws.Stepping.{step_carriable, step-refuses, step_carries}
 use Rattle.group.proofs.step.Goals as goal
 

@@ -1,5 +1,4 @@
 -- `subject_of` meets its contract. Assumes nothing.
-use borrow.Author.Rules.{rules}
 use Rattle.group.proofs.Laws.Stepping.{me_is}
 use Rattle.group.proofs.subject_of.Goals as goal
 

@@ -1,6 +1,5 @@
 -- `living` meets its contract: one test. Assumes nothing.
 use mathlib.Core.Path.{sym, ◌∙◌}
-use borrow.Author.Rules.{rules}
 use Rattle.lines.specs.Lines.{living}
 use Rattle.lines.proofs.living.Goals as goal
 

@@ -1,5 +1,4 @@
 -- `put_first` meets its contract: one piece after the other, 37 bytes at most. Assumes nothing.
-use borrow.Author.Rules.{rules}
 use Rattle.text.proofs.Laws.Writing.{wrote_then}
 use Rattle.lines.specs.Lines.{first_line}
 use Rattle.lines.proofs.put_first.Goals as goal

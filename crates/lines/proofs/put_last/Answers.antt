@@ -1,5 +1,4 @@
 -- `put_last` meets its contract: one piece after the other, 13 bytes at most. Assumes nothing.
-use borrow.Author.Rules.{rules}
 use Rattle.text.proofs.Laws.Writing.{wrote_then}
 use Rattle.lines.specs.Lines.{last_line}
 use Rattle.lines.proofs.put_last.Goals as goal

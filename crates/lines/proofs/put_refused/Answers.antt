@@ -1,5 +1,4 @@
 -- `put_refused` meets its contract: one piece after the other, 19 bytes at most. Assumes nothing.
-use borrow.Author.Rules.{rules}
 use Rattle.text.proofs.Laws.Writing.{wrote_then}
 use Rattle.lines.specs.Lines.{refused_line}
 use Rattle.lines.proofs.put_refused.Goals as goal

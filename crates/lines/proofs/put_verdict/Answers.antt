@@ -1,6 +1,5 @@
 -- `put_verdict` meets its contract: one test. Assumes nothing.
 use native.Mathlib.Omega.{arith}
-use borrow.Author.Rules.{rules}
 use Rattle.text.proofs.Laws.Writing.{wrote_room}
 use Rattle.lines.proofs.Laws.Lines.{verdict-decided, verdict_dash}
 use Rattle.lines.proofs.put_verdict.Goals as goal

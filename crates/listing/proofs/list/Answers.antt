@@ -1,6 +1,5 @@
 -- `list` meets its contract: the first line, the event lines, the rank lines and the last. Assumes nothing.
 use native.Mathlib.Omega.{arith}
-use borrow.Author.Rules.{rules}
 use Rattle.text.proofs.Laws.Writing.{wrote_then}
 use Rattle.lines.proofs.Laws.Lines.{length-rank}
 use Rattle.listing.proofs.Laws.Lines.{room_events, room-ranks, room_last}

@@ -1,9 +1,6 @@
 -- `put_events` meets its contract: before line k the first k stand. Assumes nothing.
 use Prim.Native.Nat.{◌-◌}
-use borrow.Author.Rules.{rules}
-use Rattle.text.proofs.Laws.Writing.{wrote_kept}
-use Rattle.text.proofs.Laws.Lines.{Lining, lining_room, lining_step, lining_end}
-use Rattle.listing.proofs.Laws.Lines.{events_start}
+use Rattle.text.proofs.Laws.Lines.{Lining}
 use Rattle.lines.specs.Lines.{event_line}
 use Rattle.listing.proofs.put_events.Given as goal
 

@@ -1,12 +1,8 @@
 -- `put_ranks` meets its contract: before line i the first i stand. Assumes nothing.
 use Prim.Native.Nat.{◌-◌}
-use native.Mathlib.Omega.{arith}
 use lib.ListN.{get_or}
-use borrow.Author.Rules.{rules}
 use Rattle.state.specs.States.{zero_rank}
-use Rattle.text.proofs.Laws.Writing.{wrote_kept}
-use Rattle.lines.proofs.Laws.Lines.{length-rank}
-use Rattle.text.proofs.Laws.Lines.{Lining, lining_start, lining_room, lining_step, lining_end}
+use Rattle.text.proofs.Laws.Lines.{Lining}
 use Rattle.lines.specs.Lines.{rank_line}
 use Rattle.listing.proofs.put_ranks.Given as goal
 

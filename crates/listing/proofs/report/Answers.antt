@@ -2,7 +2,6 @@
 use mathlib.Core.Path.{sym}
 use native.Mathlib.Omega.{arith}
 use lib.Seq.{length-take-le}
-use borrow.Author.Rules.{rules}
 use Rattle.schedule.proofs.Laws.Ending.{run-ended}
 use Rattle.listing.proofs.Laws.Reporting.{report-refused, report-listed}
 use Rattle.listing.proofs.report.Goals as goal

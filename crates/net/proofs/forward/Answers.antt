@@ -1,5 +1,4 @@
 -- `forward` meets its contract: the message leaves if one does, then the two sends join. Assumes nothing.
-use borrow.Author.Rules.{rules}
 use native.Mathlib.Omega.{arith}
 use Rattle.net.proofs.Laws.Forwarding.{holding_again, holding_spared, room-first, room_second, two-sends, after_one, after_two}
 use Rattle.net.proofs.forward.Goals as goal

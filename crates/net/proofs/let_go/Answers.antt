@@ -1,5 +1,4 @@
 -- `let_go` meets its contract: the message leaves if one does. Assumes nothing.
-use borrow.Author.Rules.{rules}
 use mathlib.Core.Path.{refl}
 use native.Mathlib.Omega.{arith}
 use Rattle.net.proofs.Laws.Forwarding.{place_fits, kept_all, left_one}

@@ -1,7 +1,6 @@
 -- `message_of` meets its contract: the record is the definition's. Assumes nothing.
 use mathlib.Core.Path.{refl}
 use Rattle.net.specs.Net.{message_of}
-use borrow.Author.Rules.{rules}
 use Rattle.net.proofs.message_of.Goals as goal
 
 pub returns : goal.returns

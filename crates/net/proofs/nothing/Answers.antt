@@ -1,5 +1,4 @@
 -- `nothing` meets its contract: every field is 0. Assumes nothing.
-use borrow.Author.Rules.{rules}
 use Rattle.net.proofs.nothing.Goals as goal
 
 pub returns : goal.returns

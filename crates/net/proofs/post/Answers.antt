@@ -1,11 +1,8 @@
 -- `post` meets its contract. The invariant: what stands in the places, and the messages still to come, are the list that was to be. Assumes nothing.
 use borrow.Author.Rules.{rules}
 use native.Mathlib.Omega.{arith}
-use Rattle.sets.specs.Sets as Sets
-use Rattle.sets.specs.Sets.{has}
 use Rattle.sets.proofs.Laws.Searches.{first_member, first_less}
-use Rattle.net.specs.Net.{messages_of, Small}
-use Rattle.net.proofs.Laws.Net.{Posting, posting_place}
+use Rattle.net.proofs.Laws.Net.{posting_place}
 use Rattle.net.proofs.Laws.Numbers.{posting_begin, posting_on, posting_done}
 use Rattle.net.proofs.post.Goals as goal
 

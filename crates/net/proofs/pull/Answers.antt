@@ -1,6 +1,5 @@
 -- `pull` meets its contract: the three numbers of the next place. Assumes nothing.
 use Rattle.net.proofs.Laws.Numbers.{pull-three}
-use borrow.Author.Rules.{rules}
 use Rattle.net.proofs.pull.Goals as goal
 
 pub returns-clause-small_2 : goal.returns-clause-small_2

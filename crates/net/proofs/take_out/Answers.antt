@@ -1,10 +1,7 @@
 -- `take_out` meets its contract. The invariant: the places before i hold what stands there once the message has left, the others are as they were.
 -- Assumes nothing.
 use borrow.Author.Rules.{rules}
-use Prim.Native.Nat.{◌-◌}
 use native.Mathlib.Omega.{arith}
-use Rattle.net.specs.Net.{messages_of, Small}
-use Rattle.net.proofs.Laws.Net.{Shifting}
 use Rattle.net.proofs.Laws.Numbers.{shifting_begin, shifting_on, shifting_done, shifting_place}
 use Rattle.net.proofs.take_out.Goals as goal
 

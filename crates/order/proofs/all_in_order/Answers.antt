@@ -1,5 +1,4 @@
 -- `all_in_order` meets its contract: the tests are the clauses, and the arrays have their lengths. Assumes nothing.
-use borrow.Author.Rules.{rules}
 use Rattle.calls.proofs.Laws.Shapes.{view-le, view_boxed}
 use Rattle.order.proofs.Laws.Ordering.{in_order_test, shaped_from}
 use Rattle.order.proofs.all_in_order.Goals as goal

@@ -1,7 +1,6 @@
 -- `in_order` meets its contract: size, form and box size first. Assumes nothing.
 use mathlib.Core.Path.{refl}
 use mathlib.Core.Bool.{false}
-use borrow.Author.Rules.{rules}
 use Rattle.sets.proofs.Laws.Bools.{clash}
 use Rattle.calls.proofs.Laws.Shapes.{shape-zero}
 use Rattle.order.proofs.Laws.Ordering.{in_order_misshapen}

@@ -1,5 +1,4 @@
 -- `is_within` meets its contract. Assumes nothing.
-use borrow.Author.Rules.{rules}
 use Rattle.order.specs.Order.{is_within}
 use Rattle.order.proofs.is_within.Goals as goal
 

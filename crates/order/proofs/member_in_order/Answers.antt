@@ -1,5 +1,4 @@
 -- `member_order` meets its contract. Assumes nothing.
-use borrow.Author.Rules.{rules}
 use Rattle.order.specs.Order.{member_in_order}
 use Rattle.order.proofs.member_in_order.Goals as goal
 

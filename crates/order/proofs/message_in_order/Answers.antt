@@ -1,6 +1,5 @@
 -- `message_in_order` meets its contract: the tests are the clauses. Assumes nothing.
 use Rattle.order.proofs.Laws.Ordering.{message_far, message_test}
-use borrow.Author.Rules.{rules}
 use Rattle.order.proofs.message_in_order.Goals as goal
 
 pub returns-then-n-m : goal.returns-then-n-m

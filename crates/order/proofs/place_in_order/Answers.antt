@@ -1,5 +1,4 @@
 -- `place_order` meets its contract. Assumes nothing.
-use borrow.Author.Rules.{rules}
 use Rattle.order.proofs.Laws.Ordering.{net-message, net-zero}
 use Rattle.order.proofs.place_in_order.Goals as goal
 

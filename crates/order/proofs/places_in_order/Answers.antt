@@ -1,15 +1,6 @@
 -- `net_order` meets its contract. The invariant: every place before i passes. Assumes nothing.
-use Prim.Native.Nat.{ℕ, ◌≤◌, ◌<◌, ◌-◌}
-use borrow.Author.Rules.{rules}
-use lib.ListN.{get_or}
-use mathlib.Core.Bool.{Bool, true}
-use mathlib.Core.List.{List}
-use mathlib.Core.Path.{◌≡◌}
 use native.Mathlib.Omega.{arith}
-use Rattle.rank.specs.declared.Message.{Message}
-use Rattle.net.specs.Net.{zero_message}
 use Rattle.order.proofs.Laws.Ordering.{every_stops, every-ends, every_more}
-use Rattle.order.specs.Order.{place_in_order}
 use Rattle.order.proofs.places_in_order.Invariants.{test}
 use Rattle.order.proofs.places_in_order.Goals as goal
 

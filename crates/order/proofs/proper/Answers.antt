@@ -1,5 +1,4 @@
 -- `proper` meets its contract. Assumes nothing.
-use borrow.Author.Rules.{rules}
 use Rattle.order.specs.Order.{proper}
 use Rattle.order.proofs.proper.Goals as goal
 

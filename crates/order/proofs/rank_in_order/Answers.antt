@@ -1,7 +1,6 @@
 -- `rank_in_order` meets its contract: a wrong table, or every other clause by its test. Assumes nothing.
 use Rattle.tree.proofs.Laws.Calls.{checked_fresh}
 use Rattle.order.proofs.Laws.Ranks.{unfresh, tested}
-use borrow.Author.Rules.{rules}
 use Rattle.order.proofs.rank_in_order.Goals as goal
 
 pub returns-then-not-same : goal.returns-then-not-same

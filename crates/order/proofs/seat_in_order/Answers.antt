@@ -1,5 +1,4 @@
 -- `seat_order` meets its contract. Assumes nothing.
-use borrow.Author.Rules.{rules}
 use Rattle.order.proofs.Laws.Ordering.{seat_member, seat_stranger}
 use Rattle.order.proofs.seat_in_order.Goals as goal
 

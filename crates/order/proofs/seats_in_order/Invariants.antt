@@ -1,15 +1,12 @@
 -- `ranks_order` meets its contract. The invariant: every rank before i passes. Assumes nothing.
 use Prim.Native.Nat.{ℕ, ◌≤◌, ◌<◌, ◌-◌}
-use borrow.Author.Rules.{rules}
 use lib.ListN.{get_or}
 use mathlib.Core.Bool.{Bool, true}
 use mathlib.Core.List.{List, []}
 use mathlib.Core.Path.{◌≡◌}
-use native.Mathlib.Omega.{arith}
 use Rattle.tree.specs.Forms.{tree_of}
 use Rattle.rank.specs.declared.Rank.{Rank}
 use Rattle.state.specs.States.{zero_rank}
-use Rattle.order.proofs.Laws.Ordering.{every_stops, every-ends, every_more}
 use Rattle.order.specs.Order.{seat_in_order}
 use Rattle.order.proofs.seats_in_order.Given as goal
 

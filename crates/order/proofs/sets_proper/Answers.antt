@@ -1,5 +1,4 @@
 -- `sets_proper` meets its contract. Assumes nothing.
-use borrow.Author.Rules.{rules}
 use Rattle.order.proofs.sets_proper.Goals as goal
 
 pub returns : goal.returns

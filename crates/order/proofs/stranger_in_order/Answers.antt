@@ -1,5 +1,4 @@
 -- `stranger_order` meets its contract. Assumes nothing.
-use borrow.Author.Rules.{rules}
 use Rattle.order.specs.Order.{stranger_in_order}
 use Rattle.order.proofs.stranger_in_order.Goals as goal
 

@@ -1,6 +1,5 @@
 -- `triple_within` meets its contract. Assumes nothing.
 use Rattle.order.specs.Order.{triple_within}
-use borrow.Author.Rules.{rules}
 use Rattle.order.proofs.triple_within.Goals as goal
 
 pub returns : goal.returns

@@ -1,5 +1,4 @@
 -- `triples_within` meets its contract. Assumes nothing.
-use borrow.Author.Rules.{rules}
 use Rattle.order.proofs.triples_within.Goals as goal
 
 pub returns : goal.returns

@@ -1,6 +1,5 @@
 -- `zero_place` meets its contract: the tests are the clauses. Assumes nothing.
 use Rattle.order.proofs.Laws.Ordering.{zero_place_test}
-use borrow.Author.Rules.{rules}
 use Rattle.order.proofs.zero_place.Goals as goal
 
 pub returns : goal.returns

@@ -1,6 +1,5 @@
 -- `zero_record` meets its contract: the tests are the clauses. Assumes nothing.
 use Rattle.order.proofs.Laws.Ordering.{zero_record_test}
-use borrow.Author.Rules.{rules}
 use Rattle.order.proofs.zero_record.Goals as goal
 
 pub returns : goal.returns

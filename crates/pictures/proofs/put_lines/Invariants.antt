@@ -1,11 +1,8 @@
 -- `put_lines` meets its contract: before the line of p those of the ranks below p stand. Assumes nothing.
 use mathlib.Core.Bool.{cond}
 use Prim.Native.Nat.{◌-◌}
-use borrow.Author.Rules.{rules}
-use Rattle.text.proofs.Laws.Writing.{wrote_kept}
-use Rattle.text.proofs.Laws.Lines.{Lining, lining_room, lining_step, lining_end}
+use Rattle.text.proofs.Laws.Lines.{Lining}
 use Rattle.dot.specs.Dot.{node_line, edge_line}
-use Rattle.pictures.proofs.Laws.Room.{lines_start}
 use Rattle.pictures.proofs.put_lines.Given as goal
 
 abbrev pub invariant-loop-p : goal.invariant-loop-p

@@ -1,7 +1,6 @@
 -- `put_picture` meets its contract: the first line, the nodes, the edges and the last line. Assumes nothing.
 use mathlib.Core.Bool.{true, false}
 use native.Mathlib.Omega.{arith}
-use borrow.Author.Rules.{rules}
 use Rattle.text.proofs.Laws.Writing.{wrote_then}
 use Rattle.pictures.specs.Pictures.{picture}
 use Rattle.pictures.proofs.Laws.Room.{room_nodes, room-lines}

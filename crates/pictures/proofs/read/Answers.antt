@@ -1,5 +1,4 @@
 -- `read` meets its contract: a proposal that is no view, or whose picture is another text, leaves no view at all. Assumes nothing.
-use borrow.Author.Rules.{rules}
 use Rattle.tree.proofs.Laws.Calls.{size-le}
 use Rattle.pictures.proofs.Laws.Calls.{read-size, read-marks, read-other, read_view}
 use Rattle.pictures.proofs.read.Goals as goal

@@ -1,5 +1,4 @@
 -- `write` meets its contract: two tests, and then the room. Assumes nothing.
-use borrow.Author.Rules.{rules}
 use Rattle.tree.proofs.Laws.Calls.{size-le, size_fits}
 use Rattle.pictures.proofs.Laws.Calls.{write-size, write-marks, write-fit}
 use Rattle.pictures.proofs.write.Goals as goal

@@ -1,5 +1,4 @@
 -- `wrong_marks` meets its contract: the two tests are the definition's. Assumes nothing.
-use borrow.Author.Rules.{rules}
 use Rattle.pictures.proofs.Laws.Calls.{marks_wrong}
 use Rattle.pictures.proofs.wrong_marks.Goals as goal
 

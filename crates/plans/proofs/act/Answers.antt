@@ -1,5 +1,4 @@
 -- `act` meets its contract: each return is a case of the definition. Assumes nothing.
-use borrow.Author.Rules.{rules}
 use native.Mathlib.Omega.{arith}
 use Rattle.plans.proofs.Laws.Planning.{act-enters, act-delivers, act-notices, act-acknowledges, act-nothing}
 use Rattle.plans.proofs.act.Goals as goal

@@ -1,5 +1,4 @@
 -- `afterwards` meets its contract: a message that leaves is one fewer. Assumes nothing.
-use borrow.Author.Rules.{rules}
 use borrow.Author.Tests.{not-true, not-false}
 use native.Mathlib.Omega.{arith}
 use Rattle.plans.proofs.afterwards.Goals as goal

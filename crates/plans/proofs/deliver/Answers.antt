@@ -1,5 +1,4 @@
 -- `deliver` meets its contract: each return is a case of the definition. Assumes nothing.
-use borrow.Author.Rules.{rules}
 use Rattle.plans.proofs.Laws.Planning.{deliver_dropped, deliver-up, deliver-down, deliver-ask}
 use Rattle.plans.proofs.deliver.Goals as goal
 

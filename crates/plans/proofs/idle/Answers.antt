@@ -1,5 +1,4 @@
 -- `idle` meets its contract: the record is the definition's. Assumes nothing.
-use borrow.Author.Rules.{rules}
 use Rattle.plans.proofs.idle.Goals as goal
 
 pub returns : goal.returns

@@ -1,5 +1,4 @@
 -- `plan_clean` meets its contract: no room, or what the event does. Assumes nothing.
-use borrow.Author.Rules.{rules}
 use mathlib.Core.Path.{refl}
 use Rattle.refusals.proofs.Laws.Refusing.{notice_names}
 use Rattle.plans.proofs.Laws.Planning.{plan_full, plan_accepted}

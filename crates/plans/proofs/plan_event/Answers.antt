@@ -1,5 +1,4 @@
 -- `plan_event` meets its contract: a refusal, or the plan of an event that is not refused. Assumes nothing.
-use borrow.Author.Rules.{rules}
 use mathlib.Core.Path.{sym, ◌∙◌}
 use Rattle.plans.proofs.Laws.Planning.{plan_refused}
 use Rattle.plans.proofs.plan_event.Goals as goal

@@ -1,5 +1,4 @@
 -- `refuse` meets its contract: the record is the definition's. Assumes nothing.
-use borrow.Author.Rules.{rules}
 use Rattle.plans.specs.Plans.{refusing}
 use Rattle.plans.proofs.refuse.Goals as goal
 

@@ -1,5 +1,4 @@
 -- `subject` meets its contract. Assumes nothing.
-use borrow.Author.Rules.{rules}
 use Rattle.plans.proofs.Laws.Planning.{subject_receiver, subject-named, subject-nobody}
 use Rattle.plans.proofs.subject.Goals as goal
 

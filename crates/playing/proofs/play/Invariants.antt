@@ -1,13 +1,8 @@
 -- `play` meets its contract: what is still to come has the same end. Assumes nothing.
-use borrow.Author.Rules.{rules}
-use mathlib.Core.Path.{sym, ◌∙◌}
 use Prim.Native.Nat.{◌-◌}
-use native.Mathlib.Omega.{arith}
 use Rattle.tree.specs.Forms.{tree_of}
 use Rattle.net.specs.Net.{messages_of, Small}
-use Rattle.plans.proofs.Laws.Accepting.{step_place, step_room}
-use Rattle.group.proofs.Laws.Stepping.{step-held, step_count}
-use Rattle.playing.proofs.Laws.Going.{held, Going, going_begin, going_room, going_small, going_subject, going_ready, going_held, going_count, going_refused, going_unplanned, going_accepted, going_row, going_end, put_back}
+use Rattle.playing.proofs.Laws.Going.{held, Going}
 use Rattle.playing.proofs.play.Given as goal
 
 abbrev pub invariant-loop-k : goal.invariant-loop-k

@@ -1,5 +1,4 @@
 -- `put_three` meets its contract: three stores. Assumes nothing.
-use borrow.Author.Rules.{rules}
 use Prim.Native.Nat.{◌+◌, ◌*◌}
 use lib.ListN.{set, length-set}
 use native.Mathlib.Omega.{arith}

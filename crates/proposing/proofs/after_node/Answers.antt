@@ -1,5 +1,4 @@
 -- `after_node` meets its contract: one test. Assumes nothing.
-use borrow.Author.Rules.{rules}
 use native.Mathlib.Omega.{arith}
 use Rattle.proposing.proofs.Laws.Steps.{width_small, after_plain, after_box}
 use Rattle.proposing.proofs.after_node.Goals as goal

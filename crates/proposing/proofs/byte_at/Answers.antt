@@ -1,5 +1,4 @@
 -- `byte_at` meets its contract: one test. Assumes nothing.
-use borrow.Author.Rules.{rules}
 use Rattle.proposing.proofs.Laws.Steps.{byte_past}
 use Rattle.proposing.proofs.byte_at.Goals as goal
 

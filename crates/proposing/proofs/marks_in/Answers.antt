@@ -1,8 +1,6 @@
 -- `marks_in` meets its contract: before rank p the rest of the proposal is still to come. Assumes nothing.
-use Prim.Native.Nat.{◌-◌}
 use native.Mathlib.Omega.{arith}
-use borrow.Author.Rules.{rules}
-use Rattle.proposing.proofs.Laws.Steps.{Proposing, width_small, proposing_start, proposing_take, proposing_skip, proposing_end}
+use Rattle.proposing.proofs.Laws.Steps.{width_small, proposing_start, proposing_take, proposing_skip, proposing_end}
 use Rattle.proposing.proofs.marks_in.Goals as goal
 use Rattle.proposing.proofs.marks_in.Goals.{then-number_in-p, else-number_in-p}
 

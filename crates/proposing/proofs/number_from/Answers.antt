@@ -1,5 +1,4 @@
 -- `number_from` meets its contract: two tests; a digit less 48 is below ten. Assumes nothing.
-use borrow.Author.Rules.{rules}
 use native.Mathlib.Omega.{arith}
 use Rattle.proposing.proofs.Laws.Steps.{digit_from, digit_to, number-none, number-one, number-two}
 use Rattle.proposing.proofs.number_from.Goals as goal

@@ -1,5 +1,4 @@
 -- `number_in` meets its contract: the number of two bytes. Assumes nothing.
-use borrow.Author.Rules.{rules}
 use Rattle.proposing.specs.Proposing.{number_in}
 use Rattle.proposing.proofs.number_in.Goals as goal
 

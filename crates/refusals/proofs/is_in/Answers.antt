@@ -1,5 +1,4 @@
 -- `is_in` meets its contract: a word has no member from 64 on. Assumes nothing.
-use borrow.Author.Rules.{rules}
 use Rattle.refusals.proofs.Laws.Refusing.{nobody}
 use Rattle.refusals.proofs.is_in.Goals as goal
 

@@ -1,5 +1,4 @@
 -- `of_crash` meets its contract. Assumes nothing.
-use borrow.Author.Rules.{rules}
 use borrow.Author.Tests.{eq-eqb, ne_eqb}
 use Rattle.refusals.proofs.of_crash.Goals as goal
 

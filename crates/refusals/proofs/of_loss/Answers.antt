@@ -1,5 +1,4 @@
 -- `of_loss` meets its contract. Assumes nothing.
-use borrow.Author.Rules.{rules}
 use Rattle.refusals.proofs.of_loss.Goals as goal
 
 pub returns-then-is_in : goal.returns-then-is_in

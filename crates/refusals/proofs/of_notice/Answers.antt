@@ -1,5 +1,4 @@
 -- `of_notice` meets its contract. Assumes nothing.
-use borrow.Author.Rules.{rules}
 use Rattle.refusals.proofs.of_notice.Goals as goal
 
 pub returns-then-not-member : goal.returns-then-not-member

@@ -1,5 +1,4 @@
 -- `of_place` meets its contract: the tests on the way pick the definition's case. Assumes nothing.
-use borrow.Author.Rules.{rules}
 use Rattle.refusals.proofs.Laws.Refusing.{place_5, place_loss, place_0}
 use Rattle.refusals.proofs.of_place.Goals as goal
 

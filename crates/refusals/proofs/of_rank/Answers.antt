@@ -1,7 +1,6 @@
 -- `of_rank` meets its contract: the tests on the way pick the definition's case. Assumes nothing.
 use Prim.Native.Nat.{◌<◌}
 use native.Mathlib.Omega.{arith}
-use borrow.Author.Rules.{rules}
 use Rattle.refusals.proofs.Laws.Refusing.{rank_below, told_below, rank_4, rank_6, rank-outside, rank-notice, rank_crash}
 use Rattle.refusals.proofs.of_rank.Goals as goal
 

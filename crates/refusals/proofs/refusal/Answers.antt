@@ -1,6 +1,5 @@
 -- `refusal` meets its contract: a kind that is wrong, or what it names. Assumes nothing.
 use mathlib.Core.Path.{sym, ◌∙◌}
-use borrow.Author.Rules.{rules}
 use Rattle.refusals.proofs.Laws.Refusing.{refusal_3, names_one}
 use Rattle.refusals.proofs.refusal.Goals as goal
 

@@ -1,5 +1,4 @@
 -- `wrong_kind` meets its contract. Assumes nothing.
-use borrow.Author.Rules.{rules}
 use Rattle.refusals.specs.Refusing.{wrong_kind}
 use Rattle.refusals.proofs.wrong_kind.Goals as goal
 

@@ -1,5 +1,4 @@
 -- `refuse` meets its contract: a start of no ranks is refused. Assumes nothing.
-use borrow.Author.Rules.{rules}
 use mathlib.Core.Path.{refl, ap, ◌∙◌}
 use Rattle.state.specs.declared.Started.{Started}
 use Rattle.state.proofs.Laws.Starting.{start_of_none}

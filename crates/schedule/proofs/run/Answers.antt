@@ -1,5 +1,4 @@
 -- `run` meets its contract: a bad header, no room for the answers, or the play. Assumes nothing.
-use borrow.Author.Rules.{rules}
 use Rattle.playing.proofs.Laws.Slices.{spelt-room}
 use Rattle.files.proofs.Laws.Opening.{opened_whole, not_good}
 use Rattle.schedule.proofs.Laws.Opening.{run-refused, run_no_room, run-accepted, opened_in_order}

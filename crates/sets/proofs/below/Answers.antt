@@ -3,7 +3,6 @@ use mathlib.Core.Path.{ap, sym}
 use Prim.Native.Nat.{ℕ, ◌-◌}
 use native.Mathlib.Omega.{arith}
 use lib.Pow.{pow_pos}
-use borrow.Author.Rules.{rules}
 use Rattle.sets.specs.Sets.{below}
 use Rattle.sets.proofs.Laws.Members.{shifted_one}
 use Rattle.sets.proofs.below.Goals as goal

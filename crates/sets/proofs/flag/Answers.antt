@@ -1,7 +1,6 @@
 -- `sets::flag` meets its contract: a 1 shifted by less than 8 is the power itself. Assumes nothing.
 use mathlib.Core.Path.{sym, ◌∙◌}
 use native.Mathlib.Omega.{arith}
-use borrow.Author.Rules.{rules}
 use borrow.Author.Tests.{eq-eqb, ne_eqb}
 use Rattle.sets.proofs.Laws.Bools.{cond_true, cond_false}
 use Rattle.sets.proofs.Laws.Members.{shifted_one}

@@ -1,10 +1,7 @@
 -- `sets::flags` meets its contract. The invariant: the first p places have their flags. Assumes nothing.
 use mathlib.Core.Path.{refl}
-use Prim.Native.Nat.{◌-◌}
-use lib.Dec.{eqb}
-use lib.ListN.{get_or}
 use borrow.Author.Rules.{rules}
-use Rattle.sets.proofs.Laws.Places.{Flagging, flagging_start, flagging_put, flagging_end}
+use Rattle.sets.proofs.Laws.Places.{flagging_start, flagging_put, flagging_end}
 use Rattle.sets.proofs.flags.Goals as goal
 
 pub loop-p-init : goal.loop-p-init

@@ -3,7 +3,6 @@
 use mathlib.Core.Path.{ap, sym, ◌∙◌}
 use Prim.Native.Nat.{ℕ, ◌<◌}
 use native.Mathlib.Omega.{arith}
-use borrow.Author.Rules.{rules}
 use Rattle.sets.specs.Sets.{has, largest, none}
 use Rattle.sets.proofs.Laws.Counts.{leading_largest, empty_largest}
 use Rattle.sets.proofs.largest.Goals as goal

@@ -1,6 +1,5 @@
 -- `sets::member` meets its contract: the digit that a shift brings to the front. Assumes nothing.
 use mathlib.Core.Path.{refl}
-use borrow.Author.Rules.{rules}
 use Rattle.sets.specs.Sets.{has}
 use Rattle.sets.proofs.member.Goals as goal
 

@@ -1,9 +1,8 @@
 -- `sets::octet` meets its contract. The invariant: the sum is the set of the first j flags. Assumes nothing.
 use mathlib.Core.Path.{refl}
-use Prim.Native.Nat.{◌-◌}
 use native.Mathlib.Omega.{arith}
 use borrow.Author.Rules.{rules}
-use Rattle.sets.proofs.Laws.Places.{Summing, summing_start, summing_fits, summing_step, summing_end}
+use Rattle.sets.proofs.Laws.Places.{summing_start, summing_fits, summing_step, summing_end}
 use Rattle.sets.proofs.octet.Goals as goal
 
 pub loop-j-init : goal.loop-j-init

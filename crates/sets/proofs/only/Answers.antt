@@ -1,5 +1,4 @@
 -- `sets::only` meets its contract: a 1 shifted by less than 64 is the power itself. Assumes nothing.
-use borrow.Author.Rules.{rules}
 use Rattle.sets.specs.Sets.{only}
 use Rattle.sets.proofs.Laws.Members.{shifted_one}
 use Rattle.sets.proofs.only.Goals as goal

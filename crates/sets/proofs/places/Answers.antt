@@ -1,7 +1,6 @@
 -- `sets::places` meets its contract: eight bytes, each of eight flags, are the digits of the set. Assumes nothing.
 use Prim.Native.Nat.{◌+◌}
 use native.Mathlib.Omega.{arith}
-use borrow.Author.Rules.{rules}
 use Rattle.sets.proofs.Laws.Places.{standing, flagged_eight, flagged_small, eight_octets}
 use Rattle.sets.proofs.places.Goals as goal
 

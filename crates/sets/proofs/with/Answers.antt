@@ -1,6 +1,5 @@
 -- `sets::with` meets its contract: a 1 shifted by less than 64 is p's digit alone. Assumes nothing.
 use mathlib.Core.Path.{ap}
-use borrow.Author.Rules.{rules}
 use lib.Bits.{bit_or}
 use Rattle.sets.specs.Sets.{add, union, only}
 use Rattle.sets.proofs.Laws.Members.{shifted_one}

@@ -1,5 +1,4 @@
 -- `empty_state` meets its contract. Assumes nothing.
-use borrow.Author.Rules.{rules}
 use Rattle.state.proofs.Laws.Starting.{empty_state_lem}
 use Rattle.state.proofs.empty_state.Goals as goal
 

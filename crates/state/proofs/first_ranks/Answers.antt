@@ -1,11 +1,6 @@
 -- `first_ranks` meets its contract. The invariant: the records before i are fresh. Assumes nothing.
-use Prim.Native.Nat.{◌-◌}
-use borrow.Author.Rules.{rules}
-use Rattle.tree.specs.Forms.{tree_of}
 use Rattle.rank.proofs.Laws.Keeping.{fresh_row_kept}
-use Rattle.state.proofs.Laws.Starting.{Filled, filled_from, ranks-put, ranks_end}
-use Rattle.state.specs.Starting.{first_rank}
-use Rattle.state.specs.States.{zero_rank}
+use Rattle.state.proofs.Laws.Starting.{filled_from, ranks-put, ranks_end}
 use Rattle.state.proofs.first_ranks.Goals as goal
 
 pub loop-i-init : goal.loop-i-init

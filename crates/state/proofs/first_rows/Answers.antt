@@ -1,12 +1,5 @@
 -- `first_rows` meets its contract. The invariant: the rows before i are fresh. Assumes nothing.
-use Prim.Native.Nat.{◌-◌}
-use borrow.Author.Rules.{rules}
-use lib.ListN.{replicate}
-use mathlib.Core.List.{[]}
-use Rattle.sets.specs.Sets.{none}
-use Rattle.tree.specs.Forms.{tree_of}
-use Rattle.state.proofs.Laws.Starting.{Filled, filled_start, rows_put, rows_end}
-use Rattle.state.specs.Starting.{first_row}
+use Rattle.state.proofs.Laws.Starting.{filled_start, rows_put, rows_end}
 use Rattle.state.proofs.first_rows.Goals as goal
 
 pub loop-i-init : goal.loop-i-init

@@ -1,5 +1,4 @@
 -- `fresh_state` meets its contract: n fresh ranks and rows. Assumes nothing.
-use borrow.Author.Rules.{rules}
 use Rattle.calls.proofs.Laws.Shapes.{view-le, view_boxed}
 use Rattle.state.proofs.Laws.Starting.{fresh-state}
 use Rattle.state.proofs.fresh_state.Goals as goal

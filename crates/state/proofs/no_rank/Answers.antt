@@ -1,5 +1,4 @@
 -- `no_rank` meets its contract: every field is 0. Assumes nothing.
-use borrow.Author.Rules.{rules}
 use Rattle.state.proofs.no_rank.Goals as goal
 
 pub returns : goal.returns

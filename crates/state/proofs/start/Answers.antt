@@ -1,5 +1,4 @@
 -- `start` meets its contract: a refused start is empty, an accepted one has n fresh ranks and rows. Assumes nothing.
-use borrow.Author.Rules.{rules}
 use Rattle.calls.proofs.Laws.Shapes.{shape-zero, shape_fits, form_fits, box_fits}
 use Rattle.state.proofs.Laws.Starting.{start-refused, start-accepted}
 use Rattle.state.proofs.start.Goals as goal

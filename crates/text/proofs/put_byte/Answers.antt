@@ -1,5 +1,4 @@
 -- `put_byte` meets its contract: one store. Assumes nothing.
-use borrow.Author.Rules.{rules}
 use Rattle.text.proofs.Laws.Writing.{wrote_byte}
 use Rattle.text.proofs.put_byte.Goals as goal
 

@@ -1,6 +1,5 @@
 -- `put_field` meets its contract: a space, then the number. Assumes nothing.
 use native.Mathlib.Omega.{arith}
-use borrow.Author.Rules.{rules}
 use Rattle.text.proofs.Laws.Writing.{wrote_then, wrote_room}
 use Rattle.text.specs.Text.{field}
 use Rattle.text.proofs.put_field.Goals as goal

@@ -1,8 +1,5 @@
 -- `put_letters` meets its contract: before letter i the first i stand. Assumes nothing.
-use Prim.Native.Nat.{◌-◌}
-use lib.ListN.{length}
-use borrow.Author.Rules.{rules}
-use Rattle.text.proofs.Laws.Digits.{Spelling, spelling_start, spelling_byte, spelling_step, spelling_end}
+use Rattle.text.proofs.Laws.Digits.{spelling_start, spelling_byte, spelling_step, spelling_end}
 use Rattle.text.proofs.Laws.Writing.{wrote_kept}
 use Rattle.text.proofs.put_letters.Goals as goal
 

@@ -1,8 +1,7 @@
 -- `batch_all` meets its contract: what is still to come has the same end. Assumes nothing.
-use borrow.Author.Rules.{rules}
 use Prim.Native.Nat.{◌-◌}
 use Rattle.state.specs.States.{own_tree}
-use Rattle.timing.proofs.Laws.Stepping.{Stepping, stepping-start, stepping_many, stepping_end}
+use Rattle.timing.proofs.Laws.Stepping.{Stepping}
 use Rattle.timing.proofs.batch_all.Given as goal
 
 abbrev pub invariant-loop-k : goal.invariant-loop-k

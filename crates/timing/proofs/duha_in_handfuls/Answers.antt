@@ -1,5 +1,4 @@
 -- `duha_in_handfuls` meets its contract: refused as a batch is, or the events from the started state on. Assumes nothing.
-use borrow.Author.Rules.{rules}
 use Rattle.timing.proofs.Laws.Stepping.{told-uneven, told_short, told_taken}
 use Rattle.timing.proofs.duha_in_handfuls.Goals as goal
 

@@ -1,9 +1,6 @@
 -- `step_all` meets its contract: what is still to come has the same end. Assumes nothing.
-use borrow.Author.Rules.{rules}
-use Prim.Native.Nat.{◌-◌}
 use native.Mathlib.Omega.{arith}
-use Rattle.state.specs.States.{own_tree}
-use Rattle.timing.proofs.Laws.Stepping.{Stepping, stepping-start, stepping-room, stepping-one, stepping_end}
+use Rattle.timing.proofs.Laws.Stepping.{stepping-start, stepping-room, stepping-one, stepping_end}
 use Rattle.timing.proofs.step_all.Goals as goal
 
 pub loop-k-init : goal.loop-k-init

@@ -1,7 +1,7 @@
 -- Each form of tree: whatever the box size, the rank next above is smaller, so it is a tree; and with form 0 it is the flat one. Assumes nothing.
 use mathlib.Core.Path.{◌≡◌, refl, sym, ap, subst, ◌∙◌}
 use mathlib.Core.Bool.{Bool, true, false, cond, not, ◌&&◌}
-use mathlib.Core.Logic.{◌⊎◌, ⊎_elim}
+use mathlib.Core.Logic.{⊎_elim}
 use Prim.Native.Nat.{ℕ, ◌+◌, ◌-◌, ◌*◌, ◌/◌, ◌%◌, ◌^◌, ◌≤◌, ◌<◌}
 use native.Mathlib.Nat.{le_trans, lt_of_le_of_lt, div-le_self, mod-le, mul-le-mul_right, div-mul-le_self, mod-eq-sub-div-mul, mod-zero, zero-mul, mul-lt-mul_of_pos_right}
 use native.Mathlib.Omega.{arith}

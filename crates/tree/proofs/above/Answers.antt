@@ -1,5 +1,4 @@
 -- `tree::above` meets its contract: each form with boxes has its own rank next above. Assumes nothing.
-use borrow.Author.Rules.{rules}
 use Rattle.tree.proofs.Laws.Forms.{form_star, form_nest}
 use Rattle.tree.proofs.above.Goals as goal
 

@@ -1,5 +1,4 @@
 -- `tree::ancestors` meets its contract: a form is the flat one, or has boxes. Assumes nothing.
-use borrow.Author.Rules.{rules}
 use Rattle.tree.proofs.Laws.Forms.{near_flat, boxed_else}
 use Rattle.tree.proofs.ancestors.Goals as goal
 

@@ -1,5 +1,4 @@
 -- `tree::children_of` meets its contract: the children of p are the unmarked ranks whose entry is p. Assumes nothing.
-use borrow.Author.Rules.{rules}
 use Rattle.tree.proofs.Laws.Mending.{children-read}
 use Rattle.tree.proofs.children_of.Goals as goal
 

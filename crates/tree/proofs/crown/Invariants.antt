@@ -1,14 +1,12 @@
 -- `tree::crown` meets its contract. The invariant: the first p entries are handed over, the others are as they were.
 -- Assumes nothing.
-use mathlib.Core.Path.{refl}
 use Prim.Native.Nat.{◌-◌}
 use mathlib.Core.Bool.{cond}
 use lib.Dec.{ltb}
 use lib.ListN.{get_or}
 use Rattle.sets.specs.Sets.{none}
-use borrow.Author.Rules.{rules}
 use Rattle.tree.proofs.Laws.Rows.{Patched}
-use Rattle.tree.proofs.Laws.Mending.{handed_on, handing_start, handing_put, handing_end}
+use Rattle.tree.proofs.Laws.Mending.{handed_on}
 use Rattle.tree.proofs.crown.Given as goal
 
 abbrev pub invariant-loop-p : goal.invariant-loop-p

@@ -2,10 +2,9 @@
 -- is an ancestor of p while the lowest unmarked rank is below it. The measure is that rank, as the rank above is smaller. Assumes nothing.
 use mathlib.Core.Path.{refl}
 use native.Mathlib.Omega.{arith}
-use borrow.Author.Rules.{rules}
 use Rattle.tree.specs.Tree.{half, flat}
 use Rattle.tree.proofs.Laws.Flat.{half-smaller}
-use Rattle.tree.proofs.Laws.Finding.{Passed, rising_start, rising_less, rising_within, rising_step, rising_found, rising_end, passed_start, passed_step, passed_found, passed_end}
+use Rattle.tree.proofs.Laws.Finding.{rising_start, rising_less, rising_within, rising_step, rising_found, rising_end, passed_start, passed_step, passed_found, passed_end}
 use Rattle.tree.proofs.flat_ancestors.Goals as goal
 
 pub loop-at-init : goal.loop-at-init

@@ -1,11 +1,7 @@
 -- `tree::flat_ancestors` meets its contract. The invariant: the ancestors of p above the rank reached are marked, those found among them, and that rank
 -- is an ancestor of p while the lowest unmarked rank is below it. The measure is that rank, as the rank above is smaller. Assumes nothing.
-use mathlib.Core.Path.{refl}
-use native.Mathlib.Omega.{arith}
-use borrow.Author.Rules.{rules}
-use Rattle.tree.specs.Tree.{half, flat}
-use Rattle.tree.proofs.Laws.Flat.{half-smaller}
-use Rattle.tree.proofs.Laws.Finding.{Passed, rising_start, rising_less, rising_within, rising_step, rising_found, rising_end, passed_start, passed_step, passed_found, passed_end}
+use Rattle.tree.specs.Tree.{half}
+use Rattle.tree.proofs.Laws.Finding.{Passed}
 use Rattle.tree.proofs.flat_ancestors.Given as goal
 
 abbrev pub invariant-loop-at : goal.invariant-loop-at

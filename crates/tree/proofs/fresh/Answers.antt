@@ -1,9 +1,6 @@
 -- `tree::fresh` meets its contract. The invariant: the first p entries are the fresh table's, the others 255.
 -- Assumes nothing.
-use Prim.Native.Nat.{◌-◌}
-use borrow.Author.Rules.{rules}
-use Rattle.tree.specs.Forms.{tree_of}
-use Rattle.tree.proofs.Laws.Mending.{Filling, filling_start, filling_put, filling_end}
+use Rattle.tree.proofs.Laws.Mending.{filling_start, filling_put, filling_end}
 use Rattle.tree.proofs.fresh.Goals as goal
 
 pub loop-p-init : goal.loop-p-init

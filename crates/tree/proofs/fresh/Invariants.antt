@@ -1,9 +1,8 @@
 -- `tree::fresh` meets its contract. The invariant: the first p entries are the fresh table's, the others 255.
 -- Assumes nothing.
 use Prim.Native.Nat.{◌-◌}
-use borrow.Author.Rules.{rules}
 use Rattle.tree.specs.Forms.{tree_of}
-use Rattle.tree.proofs.Laws.Mending.{Filling, filling_start, filling_put, filling_end}
+use Rattle.tree.proofs.Laws.Mending.{Filling}
 use Rattle.tree.proofs.fresh.Given as goal
 
 abbrev pub invariant-loop-p : goal.invariant-loop-p

@@ -1,6 +1,5 @@
 -- `tree::gained` meets its contract: what the last one who moved reports to, all of them do but that rank itself. Assumes nothing.
 use mathlib.Core.Path.{sym}
-use borrow.Author.Rules.{rules}
 use Rattle.sets.proofs.Laws.Members.{meet-nobody}
 use Rattle.tree.proofs.Laws.Forms.{form_ancestry, form_chained}
 use Rattle.tree.proofs.Laws.Gaining.{gained_within, gained-nobody, gained-all}

@@ -1,11 +1,8 @@
 -- `tree::hand_over` meets its contract. The invariant: the first p entries are handed over, the others are as they were.
 -- Assumes nothing.
 use mathlib.Core.Path.{refl}
-use Prim.Native.Nat.{◌-◌}
-use lib.ListN.{get_or}
 use borrow.Author.Rules.{rules}
-use Rattle.tree.proofs.Laws.Rows.{Patched}
-use Rattle.tree.proofs.Laws.Mending.{handed_on, handing_start, handing_put, handing_end}
+use Rattle.tree.proofs.Laws.Mending.{handing_start, handing_put, handing_end}
 use Rattle.tree.proofs.hand_over.Goals as goal
 
 pub loop-p-init : goal.loop-p-init

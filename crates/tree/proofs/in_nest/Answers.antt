@@ -1,5 +1,4 @@
 -- `tree::in_nest` meets its contract: a head has another above it than the ranks at other places. Assumes nothing.
-use borrow.Author.Rules.{rules}
 use native.Mathlib.Nat.{mod-le}
 use native.Mathlib.Omega.{arith}
 use Rattle.tree.proofs.Laws.Forms.{nest_fits, nest_head, nest_other}

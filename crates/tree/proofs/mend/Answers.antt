@@ -1,5 +1,4 @@
 -- `tree::mend` meets its contract: the table is relinked, and who moved is read off the entries that were q. Assumes nothing.
-use borrow.Author.Rules.{rules}
 use Rattle.tree.proofs.Laws.Mending.{mended-again, mended-alone, mended_whole}
 use Rattle.tree.proofs.mend.Goals as goal
 

@@ -1,10 +1,8 @@
 -- `tree::mend_below` meets its contract. The invariant: all below k are marked, the table is fresh, and union and sum are theirs.
 -- Assumes nothing.
-use Prim.Native.Nat.{◌≤◌, ◌-◌}
 use native.Mathlib.Omega.{arith}
 use borrow.Author.Rules.{rules}
-use Rattle.tree.specs.Forms.{tree_of}
-use Rattle.tree.proofs.Laws.Mending.{Below, below-start, below_step, below-known, below_end, below_few}
+use Rattle.tree.proofs.Laws.Mending.{below-start, below_step, below-known, below_end, below_few}
 use Rattle.tree.proofs.mend_below.Goals as goal
 
 pub loop-k-init : goal.loop-k-init

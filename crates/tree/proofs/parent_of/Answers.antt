@@ -1,6 +1,5 @@
 -- `tree::parent_of` meets its contract: where an ancestor is unmarked, the largest such member is the parent; else the lowest unmarked
 -- rank. Assumes nothing.
-use borrow.Author.Rules.{rules}
 use Rattle.tree.proofs.Laws.Finding.{low_is, parent_near, parent-low}
 use Rattle.tree.proofs.parent_of.Goals as goal
 

@@ -1,6 +1,5 @@
 -- `tree::pointing` meets its contract. Assumes nothing.
 use mathlib.Core.Path.{sym, ap, ◌∙◌}
-use borrow.Author.Rules.{rules}
 use Rattle.sets.specs.Sets.{meet}
 use Rattle.sets.proofs.Laws.Members.{meet-nobody}
 use Rattle.tree.proofs.pointing.Goals as goal

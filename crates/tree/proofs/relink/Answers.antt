@@ -1,5 +1,4 @@
 -- `tree::relink` meets its contract: who had q for a parent has q's parent, or, where q had none, the lowest unmarked rank. Assumes nothing.
-use borrow.Author.Rules.{rules}
 use Rattle.tree.proofs.Laws.Forms.{form_ancestry, form_chained}
 use Rattle.tree.proofs.Laws.Mending.{relink-up, relink-low}
 use Rattle.tree.proofs.relink.Goals as goal

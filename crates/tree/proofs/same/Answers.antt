@@ -1,10 +1,7 @@
 -- `tree::same` meets its contract. The invariant: the entries before p are equal. Assumes nothing.
-use mathlib.Core.Path.{◌≡◌}
-use Prim.Native.Nat.{ℕ, ◌≤◌, ◌<◌, ◌-◌}
 use native.Mathlib.Omega.{arith}
 use borrow.Author.Count.{below_more}
 use borrow.Author.Rules.{rules}
-use lib.ListN.{get_or}
 use Rattle.tree.proofs.Laws.Rows.{same_end, same_not}
 use Rattle.tree.proofs.same.Goals as goal
 

@@ -1,5 +1,4 @@
 -- `Rank::acknowledge` meets its contract: the row stays, as the marks do. Assumes nothing.
-use borrow.Author.Rules.{rules}
 use Rattle.rank.proofs.Laws.Acting.{acknowledge_returns}
 use Rattle.rank.proofs.Rank.acknowledge.Goals as goal
 

@@ -1,5 +1,4 @@
 -- `Rank::answer` meets its contract: each return is a case of the rule. Assumes nothing.
-use borrow.Author.Rules.{rules}
 use Rattle.rank.specs.Records.{owing}
 use Rattle.rank.proofs.Laws.Acting.{asked-decided, asked-waiting, asked-other}
 use Rattle.rank.proofs.Rank.answer.Goals as goal

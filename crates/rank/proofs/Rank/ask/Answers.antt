@@ -1,5 +1,4 @@
 -- `Rank::ask` meets its contract: mark all below q, answer, settle. Assumes nothing.
-use borrow.Author.Rules.{rules}
 use Rattle.tree.proofs.Laws.Mending.{below-unmarked, below_stays}
 use Rattle.rank.proofs.Laws.Acting.{row_below, row-seen-below, row-asked, seen-awaits, asked-awaits, ask_returns}
 use Rattle.rank.proofs.Rank.ask.Goals as goal

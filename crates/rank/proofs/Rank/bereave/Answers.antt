@@ -1,5 +1,4 @@
 -- `Rank::bereave` meets its contract: each return is a case of the rule. Assumes nothing.
-use borrow.Author.Rules.{rules}
 use Rattle.rank.proofs.Laws.Acting.{bereave-orphan, bereave_inherits, bereave-other}
 use Rattle.rank.proofs.Rank.bereave.Goals as goal
 

@@ -1,5 +1,4 @@
 -- `Rank::decide` meets its contract: a child that is not awaited was heard, and is owed or found in the row. Assumes nothing.
-use borrow.Author.Rules.{rules}
 use Rattle.rank.proofs.Laws.Acting.{decide_returns}
 use Rattle.rank.proofs.Rank.decide.Goals as goal
 

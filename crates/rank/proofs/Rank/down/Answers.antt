@@ -1,5 +1,4 @@
 -- `Rank::down` meets its contract. Assumes nothing.
-use borrow.Author.Rules.{rules}
 use Rattle.rank.proofs.Laws.Acting.{down_decides, down-nothing}
 use Rattle.rank.proofs.Rank.down.Goals as goal
 

@@ -1,5 +1,4 @@
 -- `Rank::enter` meets its contract. Assumes nothing.
-use borrow.Author.Rules.{rules}
 use Rattle.rank.proofs.Laws.Acting.{enter_returns}
 use Rattle.rank.proofs.Rank.enter.Goals as goal
 

@@ -1,6 +1,5 @@
 -- `Rank::fresh` meets its contract: nobody is heard, so all children are awaited. Assumes nothing.
 use native.Mathlib.Omega.{arith}
-use borrow.Author.Rules.{rules}
 use Rattle.sets.proofs.Laws.Members.{minus-none}
 use Rattle.rank.specs.Records.{fresh_rank, awaiting}
 use Rattle.rank.proofs.Rank.fresh.Goals as goal

@@ -1,5 +1,4 @@
 -- `Rank::lost_child` meets its contract: the test is read off the row. Assumes nothing.
-use borrow.Author.Rules.{rules}
 use Rattle.rank.proofs.Laws.Acting.{was_child}
 use Rattle.rank.proofs.Rank.lost_child.Goals as goal
 

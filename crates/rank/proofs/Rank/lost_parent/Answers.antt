@@ -1,5 +1,4 @@
 -- `Rank::lost_parent` meets its contract: the test is read off the row. Assumes nothing.
-use borrow.Author.Rules.{rules}
 use Rattle.rank.proofs.Laws.Acting.{was_parent}
 use Rattle.rank.proofs.Rank.lost_parent.Goals as goal
 

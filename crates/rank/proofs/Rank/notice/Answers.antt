@@ -1,6 +1,5 @@
 -- `Rank::notice` meets its contract: mark q, see what the death means, settle. Assumes nothing.
 use mathlib.Core.Path.{sym, ap, ◌∙◌}
-use borrow.Author.Rules.{rules}
 use Rattle.tree.specs.declared.Mended.{Mended}
 use Rattle.tree.proofs.Laws.Mending.{mended-unmarked, mended_stays}
 use Rattle.rank.proofs.Laws.Acting.{row-mended, row_seen, gained_here, row-bereaved, seen-awaits, bereaved-awaits, notice-again, notice_returns}

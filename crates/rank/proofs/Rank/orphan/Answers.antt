@@ -1,5 +1,4 @@
 -- `Rank::orphan` meets its contract: the new parent, or none, is read off the row. Assumes nothing.
-use borrow.Author.Rules.{rules}
 use Rattle.rank.proofs.Laws.Acting.{row-parent-lt, orphan-reports, orphan_gathers}
 use Rattle.rank.proofs.Rank.orphan.Goals as goal
 

@@ -1,5 +1,4 @@
 -- `Rank::report` meets its contract: the record is the definition's, with the set of q alone. Assumes nothing.
-use borrow.Author.Rules.{rules}
 use Rattle.rank.specs.Sends.{reports}
 use Rattle.rank.proofs.Rank.report.Goals as goal
 

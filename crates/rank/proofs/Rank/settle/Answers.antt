@@ -1,5 +1,4 @@
 -- `Rank::settle` meets its contract. Assumes nothing.
-use borrow.Author.Rules.{rules}
 use Rattle.rank.proofs.Laws.Acting.{settle_returns}
 use Rattle.rank.proofs.Rank.settle.Goals as goal
 

@@ -1,5 +1,4 @@
 -- `Rank::settled` meets its contract: each return is a case of the rule. Assumes nothing.
-use borrow.Author.Rules.{rules}
 use Rattle.rank.specs.Records.{becoming}
 use Rattle.rank.proofs.Laws.Acting.{row-parent-lt, settle_other, settle-awaits, settle-root, settle_child}
 use Rattle.rank.proofs.Rank.settled.Goals as goal

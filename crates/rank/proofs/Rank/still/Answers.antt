@@ -1,5 +1,4 @@
 -- `Rank::still` meets its contract: the rank is handed back, and the send is the silent one. Assumes nothing.
-use borrow.Author.Rules.{rules}
 use Rattle.rank.specs.Rules.{saying}
 use Rattle.rank.proofs.Rank.still.Goals as goal
 

@@ -1,5 +1,4 @@
 -- `Rank::up` meets its contract: a decided rank answers, any other hears q, owes it, and awaits one fewer. Assumes nothing.
-use borrow.Author.Rules.{rules}
 use Rattle.rank.proofs.Laws.Acting.{up-decided, fewer_awaited, up_undecided}
 use Rattle.rank.proofs.Rank.up.Goals as goal
 

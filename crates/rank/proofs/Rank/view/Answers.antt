@@ -1,5 +1,4 @@
 -- `Rank::view` meets its contract: who stayed has the parent it had, and who moved here is gained. Assumes nothing.
-use borrow.Author.Rules.{rules}
 use Rattle.rank.proofs.Laws.Acting.{view_returns}
 use Rattle.rank.proofs.Rank.view.Goals as goal
 

@@ -1,5 +1,4 @@
 -- `Send::ask` meets its contract: the record is the definition's. Assumes nothing.
-use borrow.Author.Rules.{rules}
 use Rattle.rank.specs.Sends.{asks}
 use Rattle.rank.proofs.Send.ask.Goals as goal
 

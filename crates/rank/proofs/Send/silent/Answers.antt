@@ -1,5 +1,4 @@
 -- `Send::silent` meets its contract: the record is the definition's. Assumes nothing.
-use borrow.Author.Rules.{rules}
 use Rattle.rank.specs.Sends.{silent}
 use Rattle.rank.proofs.Send.silent.Goals as goal
 

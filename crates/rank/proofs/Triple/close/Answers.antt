@@ -1,5 +1,4 @@
 -- `Triple::close` meets its contract. Assumes nothing.
-use borrow.Author.Rules.{rules}
 use Rattle.rank.specs.Triples.{closing}
 use Rattle.rank.proofs.Triple.close.Goals as goal
 

@@ -1,5 +1,4 @@
 -- `Triple::code` meets its contract: the test is the definition's. Assumes nothing.
-use borrow.Author.Rules.{rules}
 use Rattle.rank.proofs.Laws.Triples.{code_common, code-missing}
 use Rattle.rank.proofs.Triple.code.Goals as goal
 

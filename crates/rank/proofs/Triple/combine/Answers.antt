@@ -1,5 +1,4 @@
 -- `Triple::combine` meets its contract: the processor's and, or and and are the definition. Assumes nothing.
-use borrow.Author.Rules.{rules}
 use Rattle.rank.proofs.Laws.Triples.{combine_is}
 use Rattle.rank.proofs.Triple.combine.Goals as goal
 

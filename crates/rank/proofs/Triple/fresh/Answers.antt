@@ -1,5 +1,4 @@
 -- `Triple::fresh` meets its contract. Assumes nothing.
-use borrow.Author.Rules.{rules}
 use Rattle.rank.specs.Triples.{fresh_triple}
 use Rattle.rank.proofs.Triple.fresh.Goals as goal
 

@@ -1,5 +1,4 @@
 -- `Moved::and_then` meets its contract: the union and the sum. Assumes nothing.
-use borrow.Author.Rules.{rules}
 use Rattle.tree.specs.Calls.{and_then}
 use Rattle.tree.proofs.Moved.and_then.Goals as goal
 

@@ -1,5 +1,4 @@
 -- `Moved::sized` meets its contract: the count is the set's size. Assumes nothing.
-use borrow.Author.Rules.{rules}
 use Rattle.tree.specs.Tree.{sized}
 use Rattle.tree.proofs.Moved.sized.Goals as goal
 
