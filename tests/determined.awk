@@ -1,8 +1,7 @@
 # Reads the files of theorems crates/CRATE/proofs/Determined.antt, then the code of the libraries. A theorem is about the function whose
 # contract it imports, and has that function's name: the one of tree::parent_of is parent_of_determined, and, where two types share a name,
 # those of rank::Rank::ask and rank::Send::ask are rank_ask_determined and send_ask_determined. What `pub use` passes on is judged where it is
-# written. The prover reads no contract of a function that takes a reference to a struct: the one of batches::batch is read in its crate's
-# proofs/Terms.antt.
+# written.
 
 function complain(what) { print "determined: " what; bad = 1 }
 
@@ -63,7 +62,6 @@ FNR == 1 {
     path = $2; sub(/^.*[.]proofs[.]/, "", path); sub(/[.]Reads$/, "", path)
     if ($2 == "Rattle." crate ".proofs." path ".Reads") alias[crate, path] = $4
 }
-!code && /^use .*[.]Terms as / { if ($2 == "Rattle." crate ".proofs.Terms") alias[crate, $4] = $4 }
 !code && !/^ / { named = "" }
 !code && /^pub [^ ]+ : / { named = $2; gsub("-", "_", named); sub(/^pub [^ ]+ : /, "") }
 !code && named != "" {
