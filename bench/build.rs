@@ -1,7 +1,9 @@
 //! Says where the archives of the proved code lie; src/linked.rs names them.
 
 fn main() {
-    let archives = concat!(env!("CARGO_MANIFEST_DIR"), "/../target/staticlib");
-    println!("cargo:rustc-link-search=native={archives}");
-    println!("cargo:rerun-if-changed={archives}");
+    for name in ["timing", "racing"] {
+        let folder = format!("{}/../crates/{name}/out", env!("CARGO_MANIFEST_DIR"));
+        println!("cargo:rustc-link-search=native={folder}");
+        println!("cargo:rerun-if-changed={folder}/lib{name}.a");
+    }
 }

@@ -1,7 +1,7 @@
-# Reads the files of theorems crates/CRATE/proofs/Determined.antt, then the code of the libraries. A function's theorem is named by the word
-# under which its file imports what is read of the contract: sets::with is with, tree::parent_of is parent-of, and, where two types share a
-# name, rank::Rank::ask is rank-ask and rank::Send::ask is send-ask. What `pub use` passes on is judged where it is written. The prover reads
-# no contract of a function that takes a reference to a struct: the one of batches::batch is read in its crate's proofs/Terms.antt.
+# Reads the files of theorems crates/CRATE/proofs/Determined.antt, then the code of the libraries. A theorem is about the function whose
+# contract it imports, and has that function's name: the one of tree::parent_of is parent_of_determined, and, where two types share a name,
+# those of rank::Rank::ask and rank::Send::ask are rank_ask_determined and send_ask_determined. What `pub use` passes on is judged where it is
+# written.
 
 function complain(what) { print "determined: " what; bad = 1 }
 
@@ -17,8 +17,8 @@ function determines(said, as,   start, i, at) {
     said = substr(said, length(start) + 1)
     said = without(said == "t ≡ u" ? "(t ≡ u)" : said, "(t ≡ u)")
     for (i = 1; i <= params; i++) {
-        if (param[i] ~ /&([^ ]+ )?mut /) said = without(said, "(x" at " .0 .now ≡ y" at " .0 .now)")
-        at = at " .1"
+        if (param[i] ~ /&([^ ]+ )?mut /) said = without(said, "(x" at ".0.now ≡ y" at ".0.now)")
+        at = at ".1"
     }
     gsub("×", "", said)
     return said ~ /^[() ]*$/
@@ -27,22 +27,28 @@ function determines(said, as,   start, i, at) {
 # The theorem says: whatever the arguments, what is asked of them holds.
 function asks_nothing(said, as) { return said == "(κs : Lfts _) (a : _) → " as ".Pre κs a" }
 
-function judge(   i, path, own, as) {
+# The theorem with this ending about the function: under its name, or under those of its type and its own.
+function about(ending,   own, both) {
+    own = name "_" ending
+    both = tolower(scope[depth - 1]) "_" own
+    return depth > 0 && (crate, both) in theorem ? theorem[crate, both] : theorem[crate, own]
+}
+
+function judge(   i, path, as) {
     path = module
     for (i = 0; i < depth; i++) path = path scope[i] "."
     as = alias[crate, path name]
-    own = name; gsub("_", "-", own)
     path = crate "." path name; gsub(/[.]/, "::", path)
     sub(/^[^(]*[(]/, "", header); sub(/[)].*/, "", header)
     params = split(header, param, ",")
     seen[path] = 1
     if (index(" " exceptions " ", " " path " ")) return
     functions++
-    if (as != own && (depth == 0 || as != tolower(scope[depth - 1]) "-" own) || !determines(theorem[crate, as "-determined"], as))
+    if (as == "" || !determines(about("determined"), as))
         complain(path " has no theorem in crates/" crate "/proofs/Determined.antt that it leaves nothing open")
     if (!index(" " entries " ", " " path " ")) return
     if (asks) complain(path " is an entry point and has a requires")
-    if (!asks_nothing(theorem[crate, as "-asks-nothing"], as))
+    if (!asks_nothing(about("asks_nothing"), as))
         complain(path " is an entry point and has no theorem in crates/" crate "/proofs/Determined.antt that it asks nothing")
 }
 
@@ -53,12 +59,11 @@ FNR == 1 {
 }
 
 !code && /^use .*[.]Reads as / {
-    path = $2; sub(/^.*·proofs[.]proofs[.]/, "", path); sub(/[.]Reads$/, "", path)
-    if ($2 == "Rattle·" crate "·proofs.proofs." path ".Reads") alias[crate, path] = $4
+    path = $2; sub(/^.*[.]proofs[.]/, "", path); sub(/[.]Reads$/, "", path)
+    if ($2 == "Rattle." crate ".proofs." path ".Reads") alias[crate, path] = $4
 }
-!code && /^use .*[.]Terms as / { if ($2 == "Rattle·" crate "·proofs.proofs.Terms") alias[crate, $4] = $4 }
 !code && !/^ / { named = "" }
-!code && /^pub [^ ]+ : / { named = $2; sub(/^pub [^ ]+ : /, "") }
+!code && /^pub [^ ]+ : / { named = $2; gsub("-", "_", named); sub(/^pub [^ ]+ : /, "") }
 !code && named != "" {
     sub(/^ +/, " "); sub(/Lfts [0-9]+/, "Lfts _"); sub(/[(]t u : [^:]*[)] [(]x y : _[)]/, "(t u : _) (x y : _)")
     theorem[crate, named] = theorem[crate, named] $0
@@ -71,7 +76,7 @@ code && /^ *pub (extern "C" )?fn / {
 }
 code && header != "" {
     header = header $0
-    if (/(^| )requires( |$)/) asks = 1
+    if (/(^| )requires[*]?( |$)/) asks = 1
     if (/[{]/ && !/^ *(requires|ensures)/) { judge(); header = "" }
 }
 

@@ -2,33 +2,29 @@
 # or a definition that is needed. Prints "FILE LINES" for each file of definitions, and "unneeded FILE:NAME" for what is needed by none. Files
 # that open with "Closed tests" come last: what only they need is needed by none.
 
-# Rattle·tree·specs.specs.Tree and Rattle·tree.specs.Tree are the file crates/tree/specs/Tree.antt.
+# Rattle.tree.specs.Tree is the file crates/tree/specs/Tree.antt.
 function home(path,   crate) {
-    if (path !~ /^Rattle·/) return ""
-    sub(/^Rattle·/, "", path)
-    crate = path; sub(/[.].*/, "", crate); sub(/·.*/, "", crate)
+    if (path !~ /^Rattle[.]/) return ""
+    sub(/^Rattle[.]/, "", path)
+    crate = path; sub(/[.].*/, "", crate)
     sub(/^[^.]*[.]/, "", path)
     if (path !~ /^specs[.]/) return ""
     sub(/^specs[.]/, "", path)
     return "crates/" crate "/specs/" path ".antt"
 }
 
-# The words of a line, without its comment and its projections.
+# The words of a line, without its comment. A projection is written tight and stays at its word, as in x.new.
 function words(text) {
     sub(/(^| )-- .*$/, "", text)
-    gsub(/ [.][A-Za-z0-9'-]+/, " ", text)
-    gsub("′", "'", text)
     gsub(/[^A-Za-z0-9_'.-]+/, " ", text)
     return split(text, word, " ")
 }
 
-# The definition that a word means in a file, or nothing.
-function meant(file, w,   dot, alias) {
-    dot = index(w, ".")
-    if (dot > 0) {
-        alias = substr(w, 1, dot - 1)
-        return (file, alias) in aliases ? defined[aliases[file, alias], substr(w, dot + 1)] : ""
-    }
+# The definition that a word means in a file, or nothing. What follows a dot is a name in a file that was imported whole, or else a projection.
+function meant(file, w,   part) {
+    split(w, part, ".")
+    w = part[1]
+    if ((file, w) in aliases) return defined[aliases[file, w], part[2]]
     if ((file, w) in defined) return defined[file, w]
     return (file, w) in scope ? defined[scope[file, w], w] : ""
 }
@@ -70,13 +66,13 @@ specs && /^module / { record = 0; data = 0; next }
 specs && /^ *(unfoldable |abbrev )?pub [^ ]+ / && !(record && /^  pub /) {
     line = $0; sub(/^ *(unfoldable |abbrev )?pub /, "", line)
     record = line ~ /^(record|data) /; data = line ~ /^data /
-    sub(/^(record|data) /, "", line); sub(/ .*/, "", line); gsub("′", "'", line)
+    sub(/^(record|data) /, "", line); sub(/ .*/, "", line)
     current = FILENAME ":" line
     defined[FILENAME, line] = current; order[++total] = current; of[current] = FILENAME
 }
 
 # a case of a data type stands for the type
-specs && data && /^  [a-z-]+ : / { defined[FILENAME, $1] = current }
+specs && data && /^  [a-z_-]+ : / { defined[FILENAME, $1] = current }
 
 specs && current != "" && !/^ *--/ && !/^ *$/ {
     lines[current]++
@@ -84,7 +80,8 @@ specs && current != "" && !/^ *--/ && !/^ *$/ {
     for (i = 1; i <= n; i++) if (!seen[current, word[i]]++) use[current, ++uses[current]] = word[i]
 }
 
-code && /^ *(requires|ensures)/ { ask[++asked] = FILENAME "\t" $0 }
+# a clause without its own name
+code && /^ *(requires|ensures)/ { sub(/^ *(requires|ensures)[*]?( [a-z0-9_]+)? [{]/, ""); ask[++asked] = FILENAME "\t" $0 }
 
 !specs && !code && /^ *pub [^ ]+ : / { statement = 1; ask[++asked] = FILENAME "\t" $0; next }
 !specs && !code && /^ *(unfolding |[^ ]+ [^:]*= ?|[^ ]+ =)/ { statement = 0 }

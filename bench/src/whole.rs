@@ -4,8 +4,8 @@ use crate::racers::RACERS;
 use std::io::{Read, Write};
 use std::process::{Command, Stdio};
 
-/// The proved program, as bench/run builds it.
-const AGR: &str = concat!(env!("CARGO_MANIFEST_DIR"), "/../target/bin/agr");
+/// The proved program, as ./program has built it.
+const AGR: &str = concat!(env!("CARGO_MANIFEST_DIR"), "/../target/own/bin/agr");
 
 /// One byte more than the longest file has, so that a longer one is seen.
 const ENOUGH: u64 = 36_871;
