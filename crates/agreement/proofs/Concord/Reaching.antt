@@ -23,7 +23,7 @@ a_move_agrees anc tree chain n small Entry s s' true' inv (by_loss t) = by_loss_
 
 module _ (anc : ℕ → ℕ) (n form span : ℕ) (small : n ≤ 64) where
   no_verdict : (w : Triple) → Verdict anc n (scene (fresh_state anc n form span)) w → ⊥
-  no_verdict w (inl (i, l, e, r)) = omega (arith, all-outside anc n form span small i (holder_in n _ i l))
+  no_verdict w (inl (i, l, e, r)) = omega (arith, all-outside anc n form span small i (holder_in n (scene (fresh_state anc n form span)) i l))
   no_verdict w (inr (b, x, a)) = quiet anc n form span small _ b x (w, a.0)
 
   fresh_agrees : Concord anc n (scene (fresh_state anc n form span))
