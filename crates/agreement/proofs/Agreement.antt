@@ -16,6 +16,7 @@ use Rattle.files.specs.Files.{byte_at}
 use Rattle.schedule.specs.Runs.{run}
 use Rattle.schedule.proofs.Reaching.{run_reaches}
 use Rattle.agreement.specs.Agreement.{proposal_of, FromTheLiving, Decides, Agreement}
+use Rattle.agreement.proofs.Concord.Holders.{holder_in}
 use Rattle.agreement.proofs.Concord.Reaching.{reached_agrees}
 use Rattle.agreement.proofs.Votes.Invariant.{Concludes}
 use Rattle.agreement.proofs.Votes.Reaching.{reached_votes, entered_in_the_run}
@@ -29,7 +30,7 @@ module _ (anc : ℕ → ℕ) (tree : Ancestry anc) (chain : Chained anc) (n : �
 
   -- What a set with every living rank in it proposed together, with what a root of it added.
   pub result_from_the_living : (i : ℕ) → Decides n s i → FromTheLiving anc n s r (rank_at s i).result
-  result_from_the_living i d = go ((reached_votes anc tree chain n s r).results i d.0.0 d.1)
+  result_from_the_living i d = go ((reached_votes anc tree chain n s r).results i (holder_in n (scene s) i d.0) d.1)
     where
       go : Concludes n (proposal_of anc n s r) (scene s) (rank_at s i).result → FromTheLiving anc n s r (rank_at s i).result
       go c = record {

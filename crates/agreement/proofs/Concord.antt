@@ -1,4 +1,5 @@
 -- The same result: the invariant, and that each move keeps it.
+pub mod Holders
 pub mod Invariant
 pub mod Leading
 pub mod Linking

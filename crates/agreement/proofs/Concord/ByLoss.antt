@@ -13,6 +13,7 @@ use Rattle.rank.specs.declared.Triple.{Triple}
 use Rattle.group.proofs.Scenes.{Scene}
 use Rattle.group.proofs.Moves.{ByLoss}
 use Rattle.agreement.proofs.Living.{faded}
+use Rattle.agreement.proofs.Concord.Holders.{faded_holder}
 use Rattle.agreement.proofs.Concord.Invariant.{MayTell, Arrives, Answers, Covers, Open, Verdict, Concord}
 
 module _ (anc : ℕ → ℕ) (n : ℕ) (s s' : Scene) (t : ByLoss s s') (inv : Concord anc n s) where
@@ -41,7 +42,7 @@ module _ (anc : ℕ → ℕ) (n : ℕ) (s s' : Scene) (t : ByLoss s s') (inv : C
   still_open x o = (λ e. o.0 (was_decided x e), λ b w a. o.1 b w (arrived b x w a))
 
   was_verdict : (w : Triple) → Verdict anc n s' w → Verdict anc n s w
-  was_verdict w (inl (i, l, e, r)) = inl (i, faded t i l, was_decided i e, subst (λ (y : Rank). y.result ≡ w) (t.ranks_stay i) r)
+  was_verdict w (inl (i, l, e, r)) = inl (i, faded_holder t i l, was_decided i e, subst (λ (y : Rank). y.result ≡ w) (t.ranks_stay i) r)
   was_verdict w (inr (b, x, a)) = inr (b, x, arrived b x w a)
 
   pub by_loss_agrees : Concord anc n s'

@@ -21,6 +21,7 @@ use Rattle.rank.proofs.Speech.{SaysTriple, Remains, Obeys, Settles}
 use Rattle.group.proofs.Scenes.{Scene, Flies}
 use Rattle.group.proofs.Moves.{ByRank, ByRankInTriples}
 use Rattle.agreement.proofs.Living.{Lives, Truthful, lived, own_lives, unmarked, taken}
+use Rattle.agreement.proofs.Concord.Holders.{holder_in, lives_holds, held}
 use Rattle.agreement.proofs.Concord.Invariant.{MayTell, Arrives, Answers, Covers, Open, Verdict, Concord}
 use Rattle.agreement.proofs.Concord.Leading.{one_parent, teller_covered}
 use Rattle.agreement.proofs.Concord.Linking.{own-marks, own-parent, report_leads', heard_leads', owed_tells', own-tells, decided_stays, teller_decides, down_tells'}
@@ -167,7 +168,7 @@ module _ (anc : ℕ → ℕ) (tree : Ancestry anc) (chain : Chained anc) (n : �
     where
       go : (i ≡ p) ⊎ (i ≡ p → ⊥) → w ≡ (s'.rank p).result
       go (inl k) = subst (λ (j : ℕ). w ≡ (s'.rank j).result) k (sym r)
-      go (inr k) = absurd ((all_open z i l.0 (unmarked t true' i l) k).0 (subst (λ (y : Rank). y.phase ≡ decided) (t.others i k) e))
+      go (inr k) = absurd ((all_open z i (holder_in n s' i l) (unmarked t true' i l) k).0 (subst (λ (y : Rank). y.phase ≡ decided) (t.others i k) e))
   settled-alone z w (inr (b, x, a)) = go (arrived b x w a) (eq_or_ne x p)
     where
       to_root : (x ≡ p) → s.Carries down b x w → ⊥
@@ -185,7 +186,7 @@ module _ (anc : ℕ → ℕ) (tree : Ancestry anc) (chain : Chained anc) (n : �
   source e = go (u.speech.result_from e)
     where
       go : Remains (s.rank p) (s'.rank p) ⊎ (Obeys kind v (s.rank p) (s'.rank p) ⊎ Settles anc n p (s.rank p) (s'.rank p)) → Verdict anc n s (s'.rank p).result ⊎ Settles anc n p (s.rank p) (s'.rank p)
-      go (inl h) = inl (inl (p, (t.own, t.lives), h.was_decided, sym h.result_is))
+      go (inl h) = inl (inl (p, lives_holds n s p (t.own, t.lives), h.was_decided, sym h.result_is))
       go (inr (inl h)) = inl (subst (Verdict anc n s) (sym h.result_is) (inr (q, p, arrival h.took_down)))
       go (inr (inr h)) = inr h
 
@@ -194,7 +195,7 @@ module _ (anc : ℕ → ℕ) (tree : Ancestry anc) (chain : Chained anc) (n : �
     where
       go : (i ≡ p) ⊎ (i ≡ p → ⊥) → Verdict anc n s w
       go (inl k) = subst (Verdict anc n s) (subst (λ (j : ℕ). (s'.rank j).result ≡ w) k r) (own (subst (λ (j : ℕ). (s'.rank j).phase ≡ decided) k e))
-      go (inr k) = inl (i, lived t i l, subst (λ (y : Rank). y.phase ≡ decided) (t.others i k) e, subst (λ (y : Rank). y.result ≡ w) (t.others i k) r)
+      go (inr k) = inl (i, held t i l, subst (λ (y : Rank). y.phase ≡ decided) (t.others i k) e, subst (λ (y : Rank). y.result ≡ w) (t.others i k) r)
   was_verdict own w (inr (b, x, a)) = go (arrived b x w a)
     where
       go : Arrives anc n s b x w ⊎ ((b ≡ p) × SaysTriple f g down w x) → Verdict anc n s w

@@ -11,6 +11,7 @@ use Rattle.rank.specs.Words.{decided, up, down}
 use Rattle.rank.specs.declared.Triple.{Triple}
 use Rattle.group.proofs.Scenes.{Scene, Flies}
 use Rattle.agreement.proofs.Living.{Lives}
+use Rattle.agreement.proofs.Concord.Holders.{Holder}
 
 -- Where these ranks are dead, b may send x a DOWN: b may be x's parent, or every rank below x is dead.
 abbrev pub MayTell : (ℕ → ℕ) → ℕ → ℕ → ℕ → Type 0
@@ -35,7 +36,7 @@ module _ (anc : ℕ → ℕ) (n : ℕ) where
 
   -- A living decided rank has this result, or a DOWN that carries it arrives.
   abbrev pub Verdict : Scene → Triple → Type 0
-  Verdict s w = ((i : ℕ) × Lives n s i × ((s.rank i).phase ≡ decided) × ((s.rank i).result ≡ w)) ⊎ ((b : ℕ) × (x : ℕ) × Arrives s b x w)
+  Verdict s w = ((i : ℕ) × Holder n s i × ((s.rank i).phase ≡ decided) × ((s.rank i).result ≡ w)) ⊎ ((b : ℕ) × (x : ℕ) × Arrives s b x w)
 
   pub record Concord (s : Scene) : Type 0 where
     pub report_leads : (x b : ℕ) → Flies s up x b → MayLead anc s.dead x b

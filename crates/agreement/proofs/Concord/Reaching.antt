@@ -12,6 +12,7 @@ use Rattle.group.proofs.Scenes.{Scene, scene}
 use Rattle.group.proofs.Moves.{Move, by_rank, by_loss}
 use Rattle.agreement.proofs.Living.{Truthful}
 use Rattle.agreement.proofs.Running.{quiet, all-outside, none_heard, none_owed, every-reached}
+use Rattle.agreement.proofs.Concord.Holders.{holder_in}
 use Rattle.agreement.proofs.Concord.Invariant.{Verdict, Concord}
 use Rattle.agreement.proofs.Concord.ByRank.{turn_agrees}
 use Rattle.agreement.proofs.Concord.ByLoss.{by_loss_agrees}
@@ -22,7 +23,7 @@ a_move_agrees anc tree chain n small Entry s s' true' inv (by_loss t) = by_loss_
 
 module _ (anc : ℕ → ℕ) (n form span : ℕ) (small : n ≤ 64) where
   no_verdict : (w : Triple) → Verdict anc n (scene (fresh_state anc n form span)) w → ⊥
-  no_verdict w (inl (i, l, e, r)) = omega (arith, all-outside anc n form span small i l.0)
+  no_verdict w (inl (i, l, e, r)) = omega (arith, all-outside anc n form span small i (holder_in n (scene (fresh_state anc n form span)) i l))
   no_verdict w (inr (b, x, a)) = quiet anc n form span small _ b x (w, a.0)
 
   fresh_agrees : Concord anc n (scene (fresh_state anc n form span))

@@ -377,28 +377,25 @@ module _ (anc : ℕ → ℕ) (n me : ℕ) where
       v : Rank
       v = viewing anc n me (union r.marks (below q)) r
 
-  bereaved_steady : (q : ℕ) (r : Rank) → Becomes r (bereaved anc n me q r (viewing anc n me (add r.marks q) r))
-  unfolding regathering renewing saying viewing becoming hearing inheriting
-  bereaved_steady q r =
-      bereaved_by anc n me (Becomes r) q r v
-      (λ e f.
-      orphaned_by anc n me (Becomes r) v (λ z. open_phase r (becoming gathering (hearing anc n me 0 v)) (λ x. omega arith) (λ x. omega arith) (λ x. omega arith)) (λ z. same_phase r v refl refl))
-      (λ e z h. same_phase r v refl refl)
-      (λ g h. same_phase r v refl refl)
-    where
-      v : Rank
-      v = viewing anc n me (add r.marks q) r
-
   pub notice_steady : (q : ℕ) (r : Rank) → Steady r (noticing anc n me q r).rank
-  unfolding noticing done saying
+  unfolding noticing done saying regathering renewing viewing becoming hearing inheriting
   notice_steady q r = go (has r.marks q)
     where
       v : Rank
       v = viewing anc n me (add r.marks q) r
 
+      -- whoever lost its parent waited
+      lost : Becomes r (bereaved anc n me q r v)
+      lost =
+          bereaved_by anc n me (Becomes r) q r v
+          (λ e f.
+          orphaned_by anc n me (Becomes r) v (λ z. open_phase r (regathering anc n me v).rank (λ x. omega arith) (λ x. omega arith) (λ x. omega arith)) (λ z. same_phase r v refl refl))
+          (λ e z h. same_phase r v refl refl)
+          (λ g h. same_phase r v refl refl)
+
       go : (b : Bool) → Steady r (cond b (done anc n me (saying r silent) nobody) (settling anc n me (bereaved anc n me q r v) (moved anc n r.marks q))).rank
       go true = same_phase r r refl refl
-      go false = settling_steady r (bereaved anc n me q r v) (moved anc n r.marks q) (bereaved_steady q r)
+      go false = settling_steady r (bereaved anc n me q r v) (moved anc n r.marks q) lost
 
   pub acknowledge_steady : (r : Rank) → Steady r (acknowledging anc n me r).rank
   unfolding acknowledging done saying admitting
