@@ -1,10 +1,8 @@
 // The schedule program: reads a schedule file from standard input and prints its listing, or only its refusal.
 #![tactic(auto)]
 
-use libc::{STDIN_FILENO, STDOUT_FILENO};
+use std::io;
 
-fn main() {
-    if !printing::print(STDIN_FILENO, STDOUT_FILENO) {
-        os::fail(&[b'a', b'g', b'r']);
-    }
+fn main(rt: HostRuntime) -> io::Result<()> {
+    printing::print(&mut rt.stdin(), &mut rt.stdout())
 }

@@ -2,13 +2,17 @@
 // The model of tests/model made them and the file stdout beside src/, which holds the listings that it expects.
 #![tactic(auto)]
 
-ghost use Rattle.std.specs.Prelude.{◌<◌};
+ghost use Rattle.std.specs.Prelude.{All, ◌<◌};
 
-use libc::STDOUT_FILENO;
+use std::fs::File;
+use std::io::Write;
+use std::rt::Files;
+use std::{io, str};
 
 // A file's name from its number.
 fn name(k: u32) -> [u8; 7]
     requires { k < 1000 }
+    ensures ascii { All (λ b. b < 128) result }
 {
     [
         48 + (k / 100) as u8,
@@ -22,23 +26,17 @@ fn name(k: u32) -> [u8; 7]
 }
 
 // Opens a file and prints what the program prints of it.
-fn print(path: &[u8]) {
-    let fd = os::open_read(path);
-    if fd < 0 {
-        os::fail(path);
-        return;
-    }
-    if !printing::print(fd, STDOUT_FILENO) {
-        os::fail(path);
-    }
-    libc::close(fd);
+fn print<F: Files, W: Write>(files: &F, to: &mut W, path: &str) -> io::Result<()> {
+    let mut file = File::open(files, path)?;
+    printing::print(&mut file, to)
 }
 
-fn main() {
-    let mut k: u32 = 0;
-    while k < 204 {
-        let path = name(k);
-        print(&path);
-        k += 1;
+fn main(rt: HostRuntime) -> io::Result<()> {
+    let mut to = rt.stdout();
+    for k in 0..204u32 {
+        let bytes = name(k);
+        let path = str::from_utf8(&bytes).unwrap();
+        print(&rt, &mut to, path)?;
     }
+    Ok(())
 }

@@ -20,41 +20,43 @@ mod script;
 mod show;
 mod sums;
 
-use libc::STDIN_FILENO;
+use std::io;
+use std::io::Write;
 
 // Plays the case at a place, and answers where the next begins; of a case that is not whole, its own place.
-fn play_one(numbers: &[u32], at: usize) -> usize {
+fn play_one<W: Write>(out: &mut W, numbers: &[u32], at: usize) -> io::Result<usize> {
     let c = script::case_at(numbers, at);
     if numbers.len() < c.to {
-        return at;
+        return Ok(at);
     }
-    runs::play(numbers, c);
-    c.to
+    runs::play(out, numbers, c)?;
+    Ok(c.to)
 }
 
-fn play(numbers: &[u32]) {
+fn play<W: Write>(out: &mut W, numbers: &[u32]) -> io::Result<()> {
     let mut at: usize = 0;
     while at < numbers.len() {
-        let next = play_one(numbers, at);
+        let next = play_one(out, numbers, at)?;
         if next <= at {
-            return;
+            return Ok(());
         }
         at = next;
     }
+    Ok(())
 }
 
-fn read(text: &[u8]) {
+fn read<W: Write>(out: &mut W, text: &[u8]) -> io::Result<()> {
     let mut numbers = [0u32; 131072];
     let count = script::numbers(text, &mut numbers);
     if 131072 < count {
-        return;
+        return Ok(());
     }
-    play(&numbers[..count]);
+    play(out, &numbers[..count])
 }
 
 // A text has at most 262,144 bytes, and so half as many numbers; what is more is not read.
-fn main() {
+fn main(rt: HostRuntime) -> io::Result<()> {
     let mut text = [0u8; 262144];
-    let got = io::read_full(STDIN_FILENO, &mut text);
-    read(&text[..got]);
+    let got = reading::read_full(&mut rt.stdin(), &mut text)?;
+    read(&mut rt.stdout(), &text[..got])
 }

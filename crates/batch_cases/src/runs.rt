@@ -4,6 +4,8 @@ use super::sums::Sums;
 use super::{by_hand, script, show, sums};
 use playing::Ran;
 use state::State;
+use std::io;
+use std::io::Write;
 
 // What an answer place holds before a call; nothing is answered so.
 const MARK: u32 = 4000000000;
@@ -50,7 +52,8 @@ fn run(numbers: &[u32], from: usize, to: usize, places: &mut [u32], lent: usize,
 }
 
 // The call for a part that begins `at` numbers after the whole run does.
-fn part(
+fn part<W: Write>(
+    out: &mut W,
     c: Case,
     numbers: &[u32],
     whole: &[u32],
@@ -58,7 +61,7 @@ fn part(
     count: usize,
     lent: usize,
     t: Told,
-) -> Told {
+) -> io::Result<Told> {
     let from = script::plus(c.from, at);
     let mut places = [MARK; MOST];
     let before = t.state;
@@ -70,19 +73,27 @@ fn part(
         lent,
         before,
     );
-    show::spaced(ran.answer);
+    let answer = ran.answer;
+    write!(out, " {answer}")?;
     let beside = t.places;
     let state = ran.state;
-    Told {
-        answer: first(t.answer, ran.answer),
+    Ok(Told {
+        answer: first(t.answer, answer),
         places: sums::places(beside, whole, at, &places, count),
         past: sums::past(t.past, &places, count, MARK),
         state,
-    }
+    })
 }
 
 // The calls for all parts, one after the other.
-fn parts(c: Case, total: usize, numbers: &[u32], whole: &[u32], state: State) -> Told {
+fn parts<W: Write>(
+    out: &mut W,
+    c: Case,
+    total: usize,
+    numbers: &[u32],
+    whole: &[u32],
+    state: State,
+) -> io::Result<Told> {
     let mut t = Told {
         answer: 0,
         places: sums::none(),
@@ -90,33 +101,30 @@ fn parts(c: Case, total: usize, numbers: &[u32], whole: &[u32], state: State) ->
         state,
     };
     let mut at: usize = 0;
-    let mut k: usize = 0;
-    while k < total {
+    for k in 0..total {
         let place = script::plus(c.list, script::plus(k, k));
         let count = script::length(numbers, place, 0);
         let lent = script::length(numbers, place, 1);
-        t = part(c, numbers, whole, at, count, lent, t);
+        t = part(out, c, numbers, whole, at, count, lent, t)?;
         at = script::plus(at, count);
-        k += 1;
     }
-    t
+    Ok(t)
 }
 
-fn verdict(same: bool) {
+fn verdict(same: bool) -> &'static str {
     if same {
-        show::text(b"same\n");
-        return;
+        return "same";
     }
-    show::text(b"differ\n");
+    "differ"
 }
 
-fn compare(answer: u32, past: u32, state: State, t: Told) {
-    let after = t.state;
-    let held = sums::states(state, after);
+fn compare<W: Write>(out: &mut W, answer: u32, past: u32, state: State, t: Told) -> io::Result<()> {
+    let held = sums::states(state, t.state);
     let places = t.places;
-    show::line(b"whole", answer, places.a, past, held.a);
-    show::line(b"parts", t.answer, places.b, t.past, held.b);
-    verdict((answer == t.answer) & (past == t.past) & places.same & held.same);
+    show::line(out, "whole", answer, places.a, past, held.a)?;
+    show::line(out, "parts", t.answer, places.b, t.past, held.b)?;
+    let said = verdict((answer == t.answer) & (past == t.past) & places.same & held.same);
+    writeln!(out, "{said}")
 }
 
 fn start(size: u32, form: u32, span: u32, hand: u32) -> State {
@@ -125,14 +133,13 @@ fn start(size: u32, form: u32, span: u32, hand: u32) -> State {
     by_hand::after(fresh, hand)
 }
 
-pub fn play(numbers: &[u32], c: Case) {
+pub fn play<W: Write>(out: &mut W, numbers: &[u32], c: Case) -> io::Result<()> {
     let before = start(c.size, c.form, c.span, c.hand);
     let mut places = [MARK; MOST];
     let ran = run(numbers, c.from, c.to, &mut places, c.places, before);
-    let after = ran.state;
     let past = sums::past(0, &places, c.count, MARK);
-    show::text(b"calls");
-    let t = parts(c, c.parts, numbers, &places, before);
-    show::text(b"\n");
-    compare(ran.answer, past, after, t);
+    write!(out, "calls")?;
+    let t = parts(out, c, c.parts, numbers, &places, before)?;
+    writeln!(out)?;
+    compare(out, ran.answer, past, ran.state, t)
 }

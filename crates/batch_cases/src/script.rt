@@ -65,10 +65,8 @@ pub fn numbers(text: &[u8], out: &mut [u32]) -> usize {
         inside: false,
         count: 0,
     };
-    let mut k = 0;
-    while k < text.len() {
-        r = take(r, text[k], out);
-        k += 1;
+    for b in text {
+        r = take(r, *b, out);
     }
     r.count
 }

@@ -69,10 +69,8 @@ fn rank(t: Sums, x: Rank, y: Rank) -> Sums {
 
 fn ranks(before: Sums, x: [Rank; 64], y: [Rank; 64]) -> Sums {
     let mut t = before;
-    let mut k: usize = 0;
-    while k < 64 {
+    for k in 0..64usize {
         t = rank(t, x[k], y[k]);
-        k += 1;
     }
     t
 }
@@ -88,10 +86,8 @@ fn message(t: Sums, x: Message, y: Message) -> Sums {
 
 fn messages(before: Sums, x: [Message; 128], y: [Message; 128]) -> Sums {
     let mut t = before;
-    let mut k: usize = 0;
-    while k < 128 {
+    for k in 0..128usize {
         t = message(t, x[k], y[k]);
-        k += 1;
     }
     t
 }
@@ -102,20 +98,16 @@ fn entry(t: Sums, x: u8, y: u8) -> Sums {
 
 fn row(before: Sums, x: [u8; 64], y: [u8; 64]) -> Sums {
     let mut t = before;
-    let mut k: usize = 0;
-    while k < 64 {
+    for k in 0..64usize {
         t = entry(t, x[k], y[k]);
-        k += 1;
     }
     t
 }
 
 fn tables(before: Sums, x: [[u8; 64]; 64], y: [[u8; 64]; 64]) -> Sums {
     let mut t = before;
-    let mut k: usize = 0;
-    while k < 64 {
+    for k in 0..64usize {
         t = row(t, x[k], y[k]);
-        k += 1;
     }
     t
 }
@@ -140,10 +132,8 @@ pub fn states(x: State, y: State) -> Sums {
 // Of so many answer places: those of the whole from a place on, and a part's.
 pub fn places(before: Sums, whole: &[u32], from: usize, part: &[u32], count: usize) -> Sums {
     let mut t = before;
-    let mut k: usize = 0;
-    while k < count {
+    for k in 0..count {
         t = take(t, number(whole, plus(from, k)), number(part, k));
-        k += 1;
     }
     t
 }
@@ -151,12 +141,10 @@ pub fn places(before: Sums, whole: &[u32], from: usize, part: &[u32], count: usi
 // How many places from one on do not hold the mark any more.
 pub fn past(before: u32, places: &[u32], from: usize, mark: u32) -> u32 {
     let mut found = before;
-    let mut k = from;
-    while k < places.len() {
+    for k in from..places.len() {
         if places[k] != mark {
             found = std::num::wrapping_add_u32(found, 1);
         }
-        k += 1;
     }
     found
 }

@@ -8,30 +8,29 @@ mod obey;
 mod script;
 mod show;
 
-use libc::STDIN_FILENO;
+use std::io;
+use std::io::Write;
 
 // Prints the script, and obeys its commands as they come.
-fn play(text: &[u8]) {
+fn play<W: Write>(out: &mut W, text: &[u8]) -> io::Result<()> {
     let mut t = obey::start(0, 0, 1);
     let mut totals = script::nothing();
     let mut r = script::begin();
-    let mut k = 0;
-    while k < text.len() {
-        let b = text[k];
+    for b in text {
         if r.hidden {
-            t = obey::obey(t, r, b);
+            t = obey::obey(t, r, *b);
             let moved = t.moved;
-            totals = script::count(totals, b, t.answer, t.sent, moved.count);
-            show::show(t, totals, r.z, b);
+            totals = script::count(totals, *b, t.answer, t.sent, moved.count);
+            show::show(out, t, totals, r.z, *b)?;
         }
-        r = script::take(r, b);
-        k += 1;
+        r = script::take(out, r, *b)?;
     }
+    Ok(())
 }
 
 // A script has room for 4,096 events.
-fn main() {
+fn main(rt: HostRuntime) -> io::Result<()> {
     let mut text = [0u8; 262144];
-    let got = io::read_full(STDIN_FILENO, &mut text);
-    play(&text[..got]);
+    let got = reading::read_full(&mut rt.stdin(), &mut text)?;
+    play(&mut rt.stdout(), &text[..got])
 }

@@ -1,6 +1,7 @@
 // A script, byte by byte. What stands outside braces is printed as it is. In braces each letter is a command about the last numbers
 // before it: small letters act (obey.rt), capitals print (show.rt).
-use super::show::echo;
+use std::io;
+use std::io::Write;
 
 // Whether the reader is in braces, whether it is in a number, and the last seven numbers.
 #[derive(Clone, Copy)]
@@ -89,13 +90,13 @@ fn other(r: Reader, b: u8) -> Reader {
     t
 }
 
-// The reader after one more byte.
-pub fn take(r: Reader, b: u8) -> Reader {
+// The reader after one more byte; one outside braces is printed.
+pub fn take<W: Write>(out: &mut W, r: Reader, b: u8) -> io::Result<Reader> {
     if !(r.hidden | (b == b'{')) {
-        echo(b);
+        out.write_all(&[b])?;
     }
     if (b'0' <= b) & (b <= b'9') {
-        return digit(r, b);
+        return Ok(digit(r, b));
     }
-    other(r, b)
+    Ok(other(r, b))
 }

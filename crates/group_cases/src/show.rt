@@ -3,67 +3,50 @@
 use super::by_hand::small;
 use super::script::Totals;
 use group::Stepped;
-use libc::STDOUT_FILENO;
 use rank::{Rank, Triple};
 use state::State;
-
-pub fn echo(b: u8) {
-    io::write_all(STDOUT_FILENO, &[b]);
-}
-
-fn number(n: u32) {
-    io::print_decimal(STDOUT_FILENO, n as u64);
-}
-
-fn spaced(n: u32) {
-    echo(b' ');
-    number(n);
-}
+use std::io;
+use std::io::Write;
 
 // Answer, sent and how many moved.
-fn answers(answer: u32, sent: u32, moved: u32) {
-    spaced(answer);
-    spaced(sent);
-    spaced(moved);
-}
-
-fn set(w: u64) {
-    echo(b' ');
-    io::print_decimal(STDOUT_FILENO, w);
+fn answers<W: Write>(out: &mut W, answer: u32, sent: u32, moved: u32) -> io::Result<()> {
+    write!(out, " {answer} {sent} {moved}")
 }
 
 // Word, known dead, acknowledged set.
-fn triple(t: Triple) {
-    spaced(t.word);
-    set(t.known);
-    set(t.acknowledged);
+fn triple<W: Write>(out: &mut W, t: Triple) -> io::Result<()> {
+    let word = t.word;
+    let known = t.known;
+    let acknowledged = t.acknowledged;
+    write!(out, " {word} {known} {acknowledged}")
 }
 
-fn flight(s: State) {
-    let g = s.group;
-    number(g.count as u32);
+fn flight<W: Write>(out: &mut W, s: State) -> io::Result<()> {
+    let count = s.group.count;
+    write!(out, "{count}")
 }
 
-fn verdict(phase: u8, res: Triple) {
+fn verdict<W: Write>(out: &mut W, phase: u8, res: Triple) -> io::Result<()> {
     if phase == rank::DECIDED {
-        spaced(res.word);
-        spaced(res.code());
-        return;
+        let word = res.word;
+        let code = res.code();
+        return write!(out, " {word} {code}");
     }
-    io::write_all(STDOUT_FILENO, b" - -");
+    write!(out, " - -")
 }
 
 // As the schedule's listing has it: 1 if living, phase, the result's word, its code.
-fn line(living: bool, r: Rank) {
-    spaced(living as u32);
-    spaced(r.phase as u32);
-    let result = r.result;
-    verdict(r.phase, result);
+fn line<W: Write>(out: &mut W, living: bool, r: Rank) -> io::Result<()> {
+    let life = living as u32;
+    let phase = r.phase;
+    write!(out, " {life} {phase}")?;
+    verdict(out, phase, r.result)
 }
 
-fn known(r: Rank) {
-    set(r.marks);
-    set(r.acknowledged);
+fn known<W: Write>(out: &mut W, r: Rank) -> io::Result<()> {
+    let marks = r.marks;
+    let acknowledged = r.acknowledged;
+    write!(out, " {marks} {acknowledged}")
 }
 
 fn rank_at(ranks: [Rank; 64], k: u8) -> Rank {
@@ -71,38 +54,42 @@ fn rank_at(ranks: [Rank; 64], k: u8) -> Rank {
 }
 
 // What a capital prints of a rank.
-fn rank(s: State, k: u8, b: u8) {
+fn rank<W: Write>(out: &mut W, s: State, k: u8, b: u8) -> io::Result<()> {
     let g = s.group;
-    let ranks = g.ranks;
-    let r = rank_at(ranks, k);
-    let own = r.triple;
-    let result = r.result;
+    let r = rank_at(g.ranks, k);
     match b {
-        b'K' => known(r),
-        b'T' => triple(own),
-        b'V' => triple(result),
-        _ => line(!sets::member(g.dead, k % 64), r),
+        b'K' => known(out, r),
+        b'T' => triple(out, r.triple),
+        b'V' => triple(out, r.result),
+        _ => line(out, !sets::member(g.dead, k % 64), r),
     }
 }
 
-fn total(t: Totals, b: u8) {
-    match b {
-        b'N' => number(t.accepted),
-        b'S' => number(t.sent),
-        b'M' => number(t.moved),
-        _ => {}
-    }
-}
-
-pub fn show(t: Stepped, totals: Totals, n: u32, b: u8) {
-    let s = t.state;
+fn total<W: Write>(out: &mut W, t: Totals, b: u8) -> io::Result<()> {
+    let accepted = t.accepted;
+    let sent = t.sent;
     let moved = t.moved;
     match b {
-        b'A' => spaced(t.answer),
-        b'E' => answers(t.answer, t.sent, moved.count),
-        b'W' => set(moved.ranks),
-        b'F' => flight(s),
-        b'R' | b'K' | b'T' | b'V' => rank(s, small(n), b),
-        _ => total(totals, b),
+        b'N' => write!(out, "{accepted}"),
+        b'S' => write!(out, "{sent}"),
+        b'M' => write!(out, "{moved}"),
+        _ => Ok(()),
+    }
+}
+
+pub fn show<W: Write>(out: &mut W, t: Stepped, totals: Totals, n: u32, b: u8) -> io::Result<()> {
+    let s = t.state;
+    let moved = t.moved;
+    let ranks = moved.ranks;
+    match b {
+        b'A' => {
+            let answer = t.answer;
+            write!(out, " {answer}")
+        }
+        b'E' => answers(out, t.answer, t.sent, moved.count),
+        b'W' => write!(out, " {ranks}"),
+        b'F' => flight(out, s),
+        b'R' | b'K' | b'T' | b'V' => rank(out, s, small(n), b),
+        _ => total(out, totals, b),
     }
 }

@@ -5,38 +5,37 @@
 mod answer;
 mod script;
 
-use libc::STDIN_FILENO;
 use script::Reader;
+use std::io;
+use std::io::Write;
 
 // The reader after the byte before place k.
-fn step(text: &[u8], r: Reader, b: u8, k: usize) -> Reader {
+fn step<W: Write>(out: &mut W, text: &[u8], r: Reader, b: u8, k: usize) -> io::Result<Reader> {
     let left = r.left;
     if left == 1 {
-        answer::read(text, r.from, k);
-        return script::begin();
+        answer::read(out, text, r.from, k)?;
+        return Ok(script::begin());
     }
     if left != 0 {
-        return script::pass(r);
+        return Ok(script::pass(r));
     }
     if b == b'\n' {
-        return answer::answer(text, r, k);
+        return answer::answer(out, text, r, k);
     }
-    script::take(r, b)
+    Ok(script::take(r, b))
 }
 
-fn play(text: &[u8]) {
+fn play<W: Write>(out: &mut W, text: &[u8]) -> io::Result<()> {
     let mut r = script::begin();
-    let mut k = 0;
-    while k < text.len() {
-        let b = text[k];
-        k += 1;
-        r = step(text, r, b, k);
+    for (k, b) in text.iter().enumerate() {
+        r = step(out, text, r, *b, k + 1)?;
     }
+    Ok(())
 }
 
 // A text of cases has at most 262,144 bytes; what is more is not read.
-fn main() {
+fn main(rt: HostRuntime) -> io::Result<()> {
     let mut text = [0u8; 262144];
-    let got = io::read_full(STDIN_FILENO, &mut text);
-    play(&text[..got]);
+    let got = reading::read_full(&mut rt.stdin(), &mut text)?;
+    play(&mut rt.stdout(), &text[..got])
 }

@@ -4,6 +4,8 @@ ghost use Rattle.std.specs.Prelude.{◌<◌};
 use super::script::Command;
 use super::show::show;
 use rank::{Rank, Triple};
+use std::io;
+use std::io::Write;
 
 fn number(c: Command, k: u8) -> u32 {
     let numbers = c.numbers;
@@ -45,15 +47,24 @@ fn described(c: Command) -> Rank {
 
 // Runs a rule on rank `me` of n, in the flat form, whose awaited set and whose row are the fresh ones: enter, up, down, ask, a notice, or with k
 // acknowledge.
-fn act(before: Rank, n: u8, me: u8, rule: u8, q: u8, x: Triple) {
+#[tactic(auto, using(rank::proofs::Laws::Acting::awaited_is))]
+fn act<W: Write>(
+    out: &mut W,
+    before: Rank,
+    n: u8,
+    me: u8,
+    rule: u8,
+    q: u8,
+    x: Triple,
+) -> io::Result<()> {
     if 64 < n {
-        return;
+        return Ok(());
     }
     if n <= me {
-        return;
+        return Ok(());
     }
     if n <= q {
-        return;
+        return Ok(());
     }
     let row = tree::fresh(n, tree::FLAT, 1, before.marks);
     let mut r = before;
@@ -69,18 +80,19 @@ fn act(before: Rank, n: u8, me: u8, rule: u8, q: u8, x: Triple) {
         b'k' => r.acknowledge(n, tree::FLAT, 1, me, row),
         _ => r.notice(n, tree::FLAT, 1, me, row, q),
     };
-    show(a);
+    show(out, a)
 }
 
 // A command: the rule's letter, q and the triple x, whose word an enter takes; me, n, the phase, the marks, the acknowledged set,
 // heard, owed, the triple and the result.
-pub fn obey(c: Command) {
+pub fn obey<W: Write>(out: &mut W, c: Command) -> io::Result<()> {
     act(
+        out,
         described(c),
         small(c, 5),
         small(c, 4),
         c.letter,
         small(c, 0),
         triple(c, 1),
-    );
+    )
 }

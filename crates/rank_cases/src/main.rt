@@ -7,23 +7,22 @@ mod act;
 mod script;
 mod show;
 
-use libc::STDIN_FILENO;
+use std::io;
+use std::io::Write;
 
-fn play(text: &[u8]) {
+fn play<W: Write>(out: &mut W, text: &[u8]) -> io::Result<()> {
     let mut c = script::begin(false);
-    let mut k = 0;
-    while k < text.len() {
-        let b = text[k];
-        if script::ends(c, b) {
-            act::obey(c);
+    for b in text {
+        if script::ends(c, *b) {
+            act::obey(out, c)?;
         }
-        c = script::take(c, b);
-        k += 1;
+        c = script::take(out, c, *b)?;
     }
+    Ok(())
 }
 
-fn main() {
+fn main(rt: HostRuntime) -> io::Result<()> {
     let mut text = [0u8; 16384];
-    let got = io::read_full(STDIN_FILENO, &mut text);
-    play(&text[..got]);
+    let got = reading::read_full(&mut rt.stdin(), &mut text)?;
+    play(&mut rt.stdout(), &text[..got])
 }

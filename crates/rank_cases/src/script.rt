@@ -1,6 +1,7 @@
 // A script, byte by byte. A line that starts with `>` is a command: a letter, and numbers in the order in which they stand; what
 // other words it has is for the reader. Any other line is a heading, and is printed.
-use super::show::text;
+use std::io;
+use std::io::Write;
 
 #[derive(Clone, Copy)]
 pub struct Command {
@@ -53,24 +54,20 @@ fn other(c: Command, b: u8) -> Command {
     r
 }
 
-fn echo(b: u8) {
-    text(&[b]);
-}
-
 // The command after one more byte; a heading's byte is printed.
-pub fn take(c: Command, b: u8) -> Command {
+pub fn take<W: Write>(out: &mut W, c: Command, b: u8) -> io::Result<Command> {
     if b == b'>' {
-        return begin(true);
+        return Ok(begin(true));
     }
     if !c.open {
-        echo(b);
-        return c;
+        out.write_all(&[b])?;
+        return Ok(c);
     }
     if b == b'\n' {
-        return begin(false);
+        return Ok(begin(false));
     }
     if (b'0' <= b) & (b <= b'9') {
-        return digit(c, b);
+        return Ok(digit(c, b));
     }
-    other(c, b)
+    Ok(other(c, b))
 }

@@ -1,89 +1,62 @@
 // What a case prints: its heading, then the rank's record, what it sends and moved.
-use libc::STDOUT_FILENO;
 use rank::{Acted, Rank, Send, Triple};
-
-pub fn text(bytes: &[u8]) {
-    io::write_all(STDOUT_FILENO, bytes);
-}
-
-// A number after its name.
-fn number(name: &[u8], n: u32) {
-    text(name);
-    io::print_decimal(STDOUT_FILENO, n as u64);
-}
-
-fn member(w: u64, k: u8) {
-    if k < 64 {
-        if sets::member(w, k) {
-            number(b" ", k as u32);
-        }
-    }
-}
-
-fn members(w: u64) {
-    let mut k: u8 = 0;
-    while k < 64 {
-        member(w, k);
-        k += 1;
-    }
-}
+use std::io;
+use std::io::Write;
 
 // A set after its name and a brace, as its members, ascending.
-fn set(name: &[u8], w: u64) {
-    text(name);
-    members(w);
-    text(b" }");
+fn set<W: Write>(out: &mut W, name: &str, w: u64) -> io::Result<()> {
+    write!(out, "{name}")?;
+    for k in 0..64u8 {
+        if sets::member(w, k) {
+            write!(out, " {k}")?;
+        }
+    }
+    write!(out, " }}")
 }
 
 // A triple after its name: its word, its known dead and its acknowledged set.
-fn triple(name: &[u8], t: Triple) {
-    number(name, t.word);
-    set(b" {", t.known);
-    set(b" {", t.acknowledged);
+fn triple<W: Write>(out: &mut W, name: &str, t: Triple) -> io::Result<()> {
+    let word = t.word;
+    write!(out, "{name}{word}")?;
+    set(out, " {", t.known)?;
+    set(out, " {", t.acknowledged)
 }
 
-fn kind(k: u8) {
+fn kind(k: u8) -> &'static str {
     match k {
-        1 => text(b"UP "),
-        2 => text(b"DOWN "),
-        3 => text(b"ASK "),
-        _ => text(b"- "),
+        1 => "UP ",
+        2 => "DOWN ",
+        3 => "ASK ",
+        _ => "- ",
     }
 }
 
-fn send(name: &[u8], s: Send) {
-    text(name);
-    kind(s.kind);
-    let carried = s.triple;
-    triple(b"", carried);
-    set(b" to {", s.to);
+fn send<W: Write>(out: &mut W, name: &str, s: Send) -> io::Result<()> {
+    write!(out, "{name}")?;
+    triple(out, kind(s.kind), s.triple)?;
+    set(out, " to {", s.to)
 }
 
-fn sets_of(r: Rank) {
-    set(b" marks {", r.marks);
-    set(b" acknowledged {", r.acknowledged);
-    set(b" heard {", r.heard);
-    set(b" awaited {", r.awaited);
-    set(b" owed {", r.owed);
+fn sets_of<W: Write>(out: &mut W, r: Rank) -> io::Result<()> {
+    set(out, " marks {", r.marks)?;
+    set(out, " acknowledged {", r.acknowledged)?;
+    set(out, " heard {", r.heard)?;
+    set(out, " awaited {", r.awaited)?;
+    set(out, " owed {", r.owed)
 }
 
-fn record(r: Rank) {
-    number(b"  phase ", r.phase as u32);
-    sets_of(r);
-    let own = r.triple;
-    triple(b" triple ", own);
-    let result = r.result;
-    triple(b" result ", result);
+fn record<W: Write>(out: &mut W, r: Rank) -> io::Result<()> {
+    let phase = r.phase;
+    write!(out, "  phase {phase}")?;
+    sets_of(out, r)?;
+    triple(out, " triple ", r.triple)?;
+    triple(out, " result ", r.result)
 }
 
-pub fn show(a: Acted) {
-    let rank = a.rank;
-    record(rank);
-    let first = a.first;
-    send(b"\n  sends ", first);
-    let second = a.second;
-    send(b" then ", second);
-    let moved = a.moved;
-    number(b" moved ", moved.count);
-    text(b"\n");
+pub fn show<W: Write>(out: &mut W, a: Acted) -> io::Result<()> {
+    record(out, a.rank)?;
+    send(out, "\n  sends ", a.first)?;
+    send(out, " then ", a.second)?;
+    let count = a.moved.count;
+    writeln!(out, " moved {count}")
 }

@@ -5,38 +5,41 @@
 mod answer;
 mod script;
 
-use libc::STDIN_FILENO;
 use script::Reader;
+use std::io;
+use std::io::{Read, Write};
 
 // The reader after a text; a case is answered where its line ends.
-fn play(text: &[u8], mut r: Reader) -> Reader {
-    let mut k = 0;
-    while k < text.len() {
-        let b = text[k];
-        if b == b'\n' {
-            answer::answer(r);
+fn play<W: Write>(out: &mut W, text: &[u8], before: Reader) -> io::Result<Reader> {
+    let mut r = before;
+    for b in text {
+        if *b == b'\n' {
+            answer::answer(out, r)?;
         }
-        r = script::take(r, b);
-        k += 1;
+        r = script::take(r, *b);
     }
-    r
+    Ok(r)
 }
 
 // One read. A read that does not fill its buffer is the last.
-fn play_some(before: Reader) -> Reader {
+fn play_some<R: Read, W: Write>(from: &mut R, out: &mut W, before: Reader) -> io::Result<Reader> {
     let mut text = [0u8; 16384];
-    let got = io::read_full(STDIN_FILENO, &mut text);
-    let mut r = play(&text[..got], before);
+    let got = reading::read_full(from, &mut text)?;
+    let mut r = play(out, &text[..got], before)?;
     r.last = got < 16384;
-    r
+    Ok(r)
 }
 
-// A proved loop has to end, and nothing says that the input does: the reads are counted down from a number that no run uses up.
-fn main() {
+// A proved loop has to end, and nothing says that the input does: the reads are bounded by a number that no run uses up.
+fn main(rt: HostRuntime) -> io::Result<()> {
+    let mut from = rt.stdin();
+    let mut out = rt.stdout();
     let mut r = script::begin();
-    let mut reads = u64::MAX;
-    while reads > 0 && !r.last {
-        r = play_some(r);
-        reads -= 1;
+    for _ in 0..u64::MAX {
+        if r.last {
+            break;
+        }
+        r = play_some(&mut from, &mut out, r)?;
     }
+    Ok(())
 }

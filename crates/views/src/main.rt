@@ -2,7 +2,8 @@
 // refusal, in one write.
 #![tactic(auto)]
 
-use libc::{STDIN_FILENO, STDOUT_FILENO};
+use std::io;
+use std::io::Write;
 
 // One byte more than the longest file has, so that a longer one is seen.
 const FILE: usize = 36871;
@@ -13,13 +14,11 @@ const ANSWERS: usize = 12288;
 // 64 pictures.
 const TEXT: usize = 214528;
 
-fn main() {
+fn main(rt: HostRuntime) -> io::Result<()> {
     let mut file = [0u8; FILE];
     let mut answers = [0u32; ANSWERS];
     let mut text = [0u8; TEXT];
-    let got = io::read_full(STDIN_FILENO, &mut file);
+    let got = reading::read_full(&mut rt.stdin(), &mut file)?;
     let end = drawing::report(&file, got, &mut answers, &mut text);
-    if !io::write_all(STDOUT_FILENO, &text[..end]) {
-        os::fail(b"views");
-    }
+    rt.stdout().write_all(&text[..end])
 }
