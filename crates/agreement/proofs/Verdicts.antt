@@ -97,7 +97,7 @@ module _ (anc : ℕ → ℕ) (n : ℕ) (s : State) (run : Reaches anc n s) (verd
   verdict_within =
       subst (TripleWithin n) (sym f.is_together)
       (closing_within n f.added all (together_within n (proposal_of anc n s run) f.members n (proposed_within anc n s run))
-      (λ k h. (reached-member anc n s run f.root (f.inside f.root f.root-member)).in_order.to_settle.marks_in_lem.inside k (f.root-decided.within_marks k h)))
+      (λ k h. (reached-member anc n s run f.root (f.inside f.root f.root-member)).in_order.to_settle.marks_inside.inside k (f.root-decided.within_marks k h)))
 
   known_is : (d : ℕ) → has verdict.known d ≡ has all.known d || has f.added d
   known_is d = ap (λ (t : Triple). has t.known d) f.is_together ∙ closing-known f.added all d

@@ -59,7 +59,7 @@ pub each_rank_has_a_view : (file out : List ℕ) (i : ℕ) → (run file out).an
 each_rank_has_a_view file out i z l =
     let s = (run file out).state in
     let facts = in_order_facts flat s (reached_in_order flat (byte_at file 5) s (run_reaches file out z)) in
-    let marks = (facts.member i l).in_order.to_settle.marks_in_lem in
+    let marks = (facts.member i l).in_order.to_settle.marks_inside in
     is_view s.group.n (rank_at s i).marks i facts.shape.some facts.shape.small l marks.inside marks.without
 
 -- So a living rank's picture is read as its view.

@@ -128,7 +128,7 @@ module _ (n : ℕ) (s : State) (run : Reaches (own_tree s) n s) (i p allowance :
   short = links-bound anc (form_ancestry _ _) (form_rooted _ _) (rank_at s i).marks p (let m : n ≤ 64 = shape.small in omega arith)
 
   whole : climbed n s.group.form s.group.span (rank_at s i).marks p allowance ≡ record { number = 0; rank = reached anc (rank_at s i).marks p (links anc (rank_at s i).marks p); climbed = links anc (rank_at s i).marks p }
-  whole = climb_whole n s.group.form s.group.span (rank_at s i).marks p allowance shape (reached-member anc n s run i l).in_order.to_settle.marks_in_lem.inside b free (le_trans short enough)
+  whole = climb_whole n s.group.form s.group.span (rank_at s i).marks p allowance shape (reached-member anc n s run i l).in_order.to_settle.marks_inside.inside b free (le_trans short enough)
 
   -- The climb is accepted.
   pub a_climb_is_accepted : (climbed n s.group.form s.group.span (rank_at s i).marks p allowance).number ≡ 0

@@ -17,7 +17,7 @@ pub data Reaches (anc : ℕ → ℕ) (n : ℕ) : State → Type 0 where
   next : (s : State) (ev : Event) → Reaches anc n s → (event anc s ev).answer ≡ accepted → Reaches anc n (event anc s ev).state
 
 -- A run of the calls themselves, which take no ancestor sets: an accepted start in a form with a box size, and accepted events, each in the form
--- that its state has. It is a run along that form's ancestor sets (`the-calls-run-in-their-form`).
+-- that its state has. It is a run along that form's ancestor sets (`the_calls_run_in_their_form`).
 pub data Runs (n form span : ℕ) : State → Type 0 where
   starts : (started (tree_of form span) n form span).answer ≡ accepted → Runs n form span (started (tree_of form span) n form span).state
   goes : (s : State) (ev : Event) → Runs n form span s → (event (own_tree s) s ev).answer ≡ accepted → Runs n form span (event (own_tree s) s ev).state

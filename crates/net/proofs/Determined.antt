@@ -11,7 +11,7 @@ use Rattle.net.proofs.nothing.Reads as nothing
 use Rattle.net.proofs.numbers.Reads as numbers
 use Rattle.net.proofs.messages.Reads as messages
 use Rattle.net.proofs.at.Reads as at
-use Rattle.net.proofs.message_at.Reads as message-at
+use Rattle.net.proofs.message_at.Reads as message_at
 use Rattle.net.proofs.forward.Reads as forward
 
 pub nothing_determined : (κs : Lfts 0) (a : _) (t u : Message) (x y : _) → nothing.Post κs a t x → nothing.Post κs a u y → t ≡ u
@@ -26,7 +26,7 @@ messages_determined κs a t u x y e f = alike e f
 pub at_determined : (κs : Lfts 0) (a : _) (t u : Message) (x y : _) → at.Post κs a t x → at.Post κs a u y → t ≡ u
 at_determined κs a t u x y e f = alike e f
 
-pub message_at_determined : (κs : Lfts 1) (a : _) (t u : Message) (x y : _) → message-at.Post κs a t x → message-at.Post κs a u y → t ≡ u
+pub message_at_determined : (κs : Lfts 1) (a : _) (t u : Message) (x y : _) → message_at.Post κs a t x → message_at.Post κs a u y → t ≡ u
 message_at_determined κs a t u x y e f = alike e f
 
 -- How many are in flight, how many were sent, and the list.

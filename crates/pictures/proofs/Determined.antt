@@ -10,11 +10,11 @@ use Rattle.pictures.specs.Writing.{Outcome, reply}
 use Rattle.pictures.specs.declared.Written.{Written}
 use Rattle.pictures.specs.declared.Viewed.{Viewed}
 use Rattle.pictures.proofs.Laws.Calls.{reads_alike}
-use Rattle.pictures.proofs.put_picture.Reads as put-picture
+use Rattle.pictures.proofs.put_picture.Reads as put_picture
 use Rattle.pictures.proofs.write.Reads as write
 use Rattle.pictures.proofs.read.Reads as read
 
-pub put_picture_determined : (κs : Lfts 1) (a : _) (t u : ℕ) (x y : _) → put-picture.Post κs a t x → put-picture.Post κs a u y → (t ≡ u) × (x.0.now ≡ y.0.now)
+pub put_picture_determined : (κs : Lfts 1) (a : _) (t u : ℕ) (x y : _) → put_picture.Post κs a t x → put_picture.Post κs a u y → (t ≡ u) × (x.0.now ≡ y.0.now)
 put_picture_determined κs a t u x y e f = wrote_alike e f
 
 -- The answer, the length and the buffer.

@@ -7,7 +7,7 @@ use Rattle.sets.proofs.Laws.Alike.{alike}
 use Rattle.events.specs.declared.Event.{Event}
 use Rattle.state.specs.declared.State.{State}
 use Rattle.playing.specs.declared.Ran.{Ran}
-use Rattle.playing.proofs.event_in.Reads as event-in
+use Rattle.playing.proofs.event_in.Reads as event_in
 use Rattle.playing.proofs.put_three.Reads as put_three
 use Rattle.playing.proofs.play.Reads as play
 
@@ -15,7 +15,7 @@ use Rattle.playing.proofs.play.Reads as play
 pub ran_alike : (t u : Ran) → t.answer ≡ u.answer → t.state ≡ u.state → t ≡ u
 ran_alike t u p q = ap {B = Ran} (λ (n : ℕ). record { answer = n; state = t.state }) p ∙ ap {B = Ran} (λ (s : State). record { answer = u.answer; state = s }) q
 
-pub event_in_determined : (κs : Lfts 1) (a : _) (t u : Event) (x y : _) → event-in.Post κs a t x → event-in.Post κs a u y → t ≡ u
+pub event_in_determined : (κs : Lfts 1) (a : _) (t u : Event) (x y : _) → event_in.Post κs a t x → event_in.Post κs a u y → t ≡ u
 event_in_determined κs a t u x y e f = alike e f
 
 pub put_three_determined : (κs : Lfts 1) (a : _) (t u : _) (x y : _) → put_three.Post κs a t x → put_three.Post κs a u y → (t ≡ u) × (x.0.now ≡ y.0.now)

@@ -10,14 +10,14 @@ use Rattle.rank.specs.declared.Acted.{Acted}
 use Rattle.rank.proofs.Triple.zero.Reads as zero
 use Rattle.rank.proofs.Triple.code.Reads as code
 use Rattle.rank.proofs.Send.silent.Reads as silent
-use Rattle.rank.proofs.Send.down.Reads as send-down
-use Rattle.rank.proofs.Send.ask.Reads as send-ask
+use Rattle.rank.proofs.Send.down.Reads as send_down
+use Rattle.rank.proofs.Send.ask.Reads as send_ask
 use Rattle.rank.proofs.Rank.fresh.Reads as fresh
 use Rattle.rank.proofs.Rank.settle.Reads as settle
 use Rattle.rank.proofs.Rank.enter.Reads as enter
 use Rattle.rank.proofs.Rank.up.Reads as up
 use Rattle.rank.proofs.Rank.down.Reads as rank_down
-use Rattle.rank.proofs.Rank.ask.Reads as rank-ask
+use Rattle.rank.proofs.Rank.ask.Reads as rank_ask
 use Rattle.rank.proofs.Rank.notice.Reads as notice
 use Rattle.rank.proofs.Rank.acknowledge.Reads as acknowledge
 
@@ -30,10 +30,10 @@ code_determined κs a t u x y e f = alike e f
 pub silent_determined : (κs : Lfts 0) (a : _) (t u : Send) (x y : _) → silent.Post κs a t x → silent.Post κs a u y → t ≡ u
 silent_determined κs a t u x y e f = alike e f
 
-pub send_down_determined : (κs : Lfts 0) (a : _) (t u : Send) (x y : _) → send-down.Post κs a t x → send-down.Post κs a u y → t ≡ u
+pub send_down_determined : (κs : Lfts 0) (a : _) (t u : Send) (x y : _) → send_down.Post κs a t x → send_down.Post κs a u y → t ≡ u
 send_down_determined κs a t u x y e f = alike e f
 
-pub send_ask_determined : (κs : Lfts 0) (a : _) (t u : Send) (x y : _) → send-ask.Post κs a t x → send-ask.Post κs a u y → t ≡ u
+pub send_ask_determined : (κs : Lfts 0) (a : _) (t u : Send) (x y : _) → send_ask.Post κs a t x → send_ask.Post κs a u y → t ≡ u
 send_ask_determined κs a t u x y e f = alike e f
 
 pub fresh_determined : (κs : Lfts 0) (a : _) (t u : Rank) (x y : _) → fresh.Post κs a t x → fresh.Post κs a u y → t ≡ u
@@ -51,7 +51,7 @@ up_determined κs a t u x y e f = alike e f
 pub rank_down_determined : (κs : Lfts 0) (a : _) (t u : Acted) (x y : _) → rank_down.Post κs a t x → rank_down.Post κs a u y → t ≡ u
 rank_down_determined κs a t u x y e f = alike e f
 
-pub rank_ask_determined : (κs : Lfts 0) (a : _) (t u : Acted) (x y : _) → rank-ask.Post κs a t x → rank-ask.Post κs a u y → t ≡ u
+pub rank_ask_determined : (κs : Lfts 0) (a : _) (t u : Acted) (x y : _) → rank_ask.Post κs a t x → rank_ask.Post κs a u y → t ≡ u
 rank_ask_determined κs a t u x y e f = alike e f
 
 pub notice_determined : (κs : Lfts 0) (a : _) (t u : Acted) (x y : _) → notice.Post κs a t x → notice.Post κs a u y → t ≡ u

@@ -30,7 +30,7 @@ pub record Knows (r : Rank) (marks acknowledged : ℕ) : Type 0 where
 
 -- A rank in order, save that it may be gathering with nobody awaited: what a rule hands to settle.
 pub record ToSettle (anc : ℕ → ℕ) (n me : ℕ) (r : Rank) : Type 0 where
-  pub marks_in_lem : Within n me r.marks
+  pub marks_inside : Within n me r.marks
   pub acknowledged_marked : (k : ℕ) → has r.acknowledged k ≡ true → has r.marks k ≡ true
   pub heard_in : Within n me r.heard
   pub owed_in : Within n me r.owed

@@ -1,5 +1,5 @@
 -- Closed tests run a file by the step inside `event` alone: no order is looked at on the way, so it computes sooner. That this is the run is
--- proved (`run-steps`).
+-- proved (`run_steps`).
 use Rattle.std.specs.Prelude.{ℕ, zero, suc, ◌+◌, ◌*◌, cond, List, ltb, length}
 use Rattle.tree.specs.Tree.{flat}
 use Rattle.tree.specs.Forms.{flat_form}

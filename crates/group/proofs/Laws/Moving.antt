@@ -56,7 +56,7 @@ pub link_free : (anc : ℕ → ℕ) (s : State) (i p k : ℕ) → InOrder anc s 
 link_free anc s i p k o l b h e =
     let f = in_order_facts anc s o in
     let small : s.group.n ≤ 64 = f.shape.small in
-    let c : k < s.group.n = (f.member i l).in_order.to_settle.marks_in_lem.inside k h in
+    let c : k < s.group.n = (f.member i l).in_order.to_settle.marks_inside.inside k h in
     table_free anc s.group.n (rank_at s i).marks k p small (omega arith) b h (sym (ap (λ (t : List ℕ). get_or t p 0) (table-fresh anc s s.group.n i o refl l)) ∙ e)
 
 -- ---- any accepted event

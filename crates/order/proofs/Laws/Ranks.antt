@@ -93,7 +93,7 @@ module _ (anc : ℕ → ℕ) (n me : ℕ) where
       let t12 = all_tail _ _ t11 in (
         record {
           to_settle = record {
-            marks_in_lem = proper_within n me r.marks (all_head _ _ t);
+            marks_inside = proper_within n me r.marks (all_head _ _ t);
             heard_in = proper_within n me r.heard (all_head _ _ t1);
             owed_in = proper_within n me r.owed (all_head _ _ t3);
             acknowledged_marked = within_o r.acknowledged r.marks (all_head _ _ t4);
@@ -113,7 +113,7 @@ module _ (anc : ℕ → ℕ) (n me : ℕ) where
   unfolding rank_in_order clauses
   facts_rank_in_order small own r row o e =
       let f = o.to_settle in
-      all_cons _ _ (within_proper n me r.marks f.marks_in_lem)
+      all_cons _ _ (within_proper n me r.marks f.marks_inside)
       (all_cons _ _ (within_proper n me r.heard f.heard_in)
       (all_cons _ _ (within_proper n me r.awaited (subst (Within n me) (sym f.awaits) (within_awaiting anc n me small own r.marks r.heard)))
       (all_cons _ _ (within_proper n me r.owed f.owed_in)

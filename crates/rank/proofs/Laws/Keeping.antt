@@ -109,7 +109,7 @@ module _ (anc : ℕ → ℕ) (n me : ℕ) (small : n ≤ 64) (own : me < n) wher
   deciding_in_order : (x : Triple) (r : Rank) → TripleWithin n x → ToSettle anc n me r → RankInOrder anc n me (deciding anc n me x r).rank
   unfolding deciding saying concluding parent_of
   deciding_in_order x r t f = record {
-    to_settle = record { marks_in_lem = f.marks_in_lem; acknowledged_marked = f.acknowledged_marked; heard_in = f.heard_in; owed_in = f.owed_in; awaits = f.awaits; waits = λ e. absurd (omega arith); triple_in = f.triple_in; result_in = t; unless = λ e. absurd (e refl); known = omega arith };
+    to_settle = record { marks_inside = f.marks_inside; acknowledged_marked = f.acknowledged_marked; heard_in = f.heard_in; owed_in = f.owed_in; awaits = f.awaits; waits = λ e. absurd (omega arith); triple_in = f.triple_in; result_in = t; unless = λ e. absurd (e refl); known = omega arith };
     gathers = λ e. absurd (omega arith);
   }
 
@@ -126,10 +126,10 @@ module _ (anc : ℕ → ℕ) (n me : ℕ) (small : n ≤ 64) (own : me < n) wher
   settles r f =
       settled_by anc n me (Settles r) r
       (λ h. (record { to_settle = f; gathers = h }, refl, silent-posted r.marks))
-      (λ p a e. let t : TripleWithin n (closing r.marks r.triple) = closing_within n r.marks r.triple f.triple_in f.marks_in_lem.inside in (deciding_in_order (closing r.marks r.triple) r t f, refl, deciding-posted (closing r.marks r.triple) r t f))
+      (λ p a e. let t : TripleWithin n (closing r.marks r.triple) = closing_within n r.marks r.triple f.triple_in f.marks_inside.inside in (deciding_in_order (closing r.marks r.triple) r t f, refl, deciding-posted (closing r.marks r.triple) r t f))
       (λ p a e. (
         record {
-          to_settle = record { marks_in_lem = f.marks_in_lem; acknowledged_marked = f.acknowledged_marked; heard_in = f.heard_in; owed_in = f.owed_in; awaits = f.awaits; waits = λ x. e; triple_in = f.triple_in; result_in = f.result_in; unless = λ x. f.unless (λ y. omega arith); known = omega arith };
+          to_settle = record { marks_inside = f.marks_inside; acknowledged_marked = f.acknowledged_marked; heard_in = f.heard_in; owed_in = f.owed_in; awaits = f.awaits; waits = λ x. e; triple_in = f.triple_in; result_in = f.result_in; unless = λ x. f.unless (λ y. omega arith); known = omega arith };
           gathers = λ x. absurd (omega arith);
         },
         refl,
@@ -160,7 +160,7 @@ module _ (anc : ℕ → ℕ) (n me : ℕ) (small : n ≤ 64) (own : me < n) wher
   unfolding entering saying becoming combining
   enter_in_order w r o p =
       leaves_in_order r.marks r.acknowledged (saying v silent) nobody (
-        record { marks_in_lem = o.to_settle.marks_in_lem; acknowledged_marked = o.to_settle.acknowledged_marked; heard_in = o.to_settle.heard_in; owed_in = o.to_settle.owed_in; awaits = o.to_settle.awaits; waits = λ e. absurd (omega arith); triple_in = combine_within n r.triple (proposal w r) o.to_settle.triple_in (proposal_within anc n me w r o.to_settle); result_in = o.to_settle.result_in; unless = λ e. o.to_settle.unless (λ x. omega arith); known = omega arith },
+        record { marks_inside = o.to_settle.marks_inside; acknowledged_marked = o.to_settle.acknowledged_marked; heard_in = o.to_settle.heard_in; owed_in = o.to_settle.owed_in; awaits = o.to_settle.awaits; waits = λ e. absurd (omega arith); triple_in = combine_within n r.triple (proposal w r) o.to_settle.triple_in (proposal_within anc n me w r o.to_settle); result_in = o.to_settle.result_in; unless = λ e. o.to_settle.unless (λ x. omega arith); known = omega arith },
         same v,
         silent-posted r.marks,
       )
@@ -175,7 +175,7 @@ module _ (anc : ℕ → ℕ) (n me : ℕ) (small : n ≤ 64) (own : me < n) wher
       (raised_by anc n me (Leaves r.marks r.acknowledged) q x r
       (λ e. (o.to_settle, same r, tells-posted r.marks r.result (only q) o.to_settle.result_in (within_only n me q l d)))
       (λ e. (
-        record { marks_in_lem = o.to_settle.marks_in_lem; acknowledged_marked = o.to_settle.acknowledged_marked; heard_in = within_add n me r.heard q o.to_settle.heard_in l d; owed_in = within_add n me r.owed q o.to_settle.owed_in l d; awaits = refl; waits = o.to_settle.waits; triple_in = combine_within n r.triple x o.to_settle.triple_in t; result_in = o.to_settle.result_in; unless = o.to_settle.unless; known = o.to_settle.known },
+        record { marks_inside = o.to_settle.marks_inside; acknowledged_marked = o.to_settle.acknowledged_marked; heard_in = within_add n me r.heard q o.to_settle.heard_in l d; owed_in = within_add n me r.owed q o.to_settle.owed_in l d; awaits = refl; waits = o.to_settle.waits; triple_in = combine_within n r.triple x o.to_settle.triple_in t; result_in = o.to_settle.result_in; unless = o.to_settle.unless; known = o.to_settle.known },
         same (noting anc n me q x r),
         silent-posted r.marks,
       )))
@@ -203,7 +203,7 @@ module _ (anc : ℕ → ℕ) (n me : ℕ) (small : n ≤ 64) (own : me < n) wher
 
       to_settle : ToSettle anc n me v
       to_settle = record {
-        marks_in_lem = within_union n me r.marks (below q) o.to_settle.marks_in_lem (within_below n me q (omega arith) (omega arith));
+        marks_inside = within_union n me r.marks (below q) o.to_settle.marks_inside (within_below n me q (omega arith) (omega arith));
         acknowledged_marked = λ k h. marked_more r.marks q k (o.to_settle.acknowledged_marked k h);
         heard_in = o.to_settle.heard_in;
         owed_in = o.to_settle.owed_in;
@@ -216,7 +216,7 @@ module _ (anc : ℕ → ℕ) (n me : ℕ) (small : n ≤ 64) (own : me < n) wher
       }
 
       owes : ToSettle anc n me (owing q v)
-      owes = record { marks_in_lem = to_settle.marks_in_lem; acknowledged_marked = to_settle.acknowledged_marked; heard_in = to_settle.heard_in; owed_in = within_add n me r.owed q o.to_settle.owed_in (omega arith) (λ x. omega arith); awaits = refl; waits = to_settle.waits; triple_in = to_settle.triple_in; result_in = to_settle.result_in; unless = to_settle.unless; known = to_settle.known }
+      owes = record { marks_inside = to_settle.marks_inside; acknowledged_marked = to_settle.acknowledged_marked; heard_in = to_settle.heard_in; owed_in = within_add n me r.owed q o.to_settle.owed_in (omega arith) (λ x. omega arith); awaits = refl; waits = to_settle.waits; triple_in = to_settle.triple_in; result_in = to_settle.result_in; unless = to_settle.unless; known = to_settle.known }
 
   notice-again : (q : ℕ) (r : Rank) → has r.marks q ≡ true → noticing anc n me q r ≡ done anc n me (saying r silent) nobody
   unfolding noticing
@@ -234,7 +234,7 @@ module _ (anc : ℕ → ℕ) (n me : ℕ) (small : n ≤ 64) (own : me < n) wher
       (λ e f.
       orphaned_by anc n me (Leaves after r.acknowledged) v
       (λ z. (
-        record { marks_in_lem = marked; acknowledged_marked = acknowledged; heard_in = within_none n me; owed_in = o.to_settle.owed_in; awaits = refl; waits = λ x. absurd (omega arith); triple_in = o.to_settle.triple_in; result_in = o.to_settle.result_in; unless = λ x. o.to_settle.unless (λ y. omega arith); known = omega arith },
+        record { marks_inside = marked; acknowledged_marked = acknowledged; heard_in = within_none n me; owed_in = o.to_settle.owed_in; awaits = refl; waits = λ x. absurd (omega arith); triple_in = o.to_settle.triple_in; result_in = o.to_settle.result_in; unless = λ x. o.to_settle.unless (λ y. omega arith); known = omega arith },
         same (becoming gathering (hearing anc n me 0 v)),
         asks-posted after (children anc n after me) (within_children after) z,
       ))
@@ -249,13 +249,13 @@ module _ (anc : ℕ → ℕ) (n me : ℕ) (small : n ≤ 64) (own : me < n) wher
       v = viewing anc n me after r
 
       marked : Within n me after
-      marked = within_add n me r.marks q o.to_settle.marks_in_lem l d
+      marked = within_add n me r.marks q o.to_settle.marks_inside l d
 
       acknowledged : (k : ℕ) → has r.acknowledged k ≡ true → has after k ≡ true
       acknowledged k h = has_add_more r.marks q k (o.to_settle.acknowledged_marked k h)
 
       seen : (r.phase ≡ waiting → parent anc after me ≡ none → ⊥) → ToSettle anc n me v
-      seen w = record { marks_in_lem = marked; acknowledged_marked = acknowledged; heard_in = o.to_settle.heard_in; owed_in = o.to_settle.owed_in; awaits = refl; waits = w; triple_in = o.to_settle.triple_in; result_in = o.to_settle.result_in; unless = o.to_settle.unless; known = o.to_settle.known }
+      seen w = record { marks_inside = marked; acknowledged_marked = acknowledged; heard_in = o.to_settle.heard_in; owed_in = o.to_settle.owed_in; awaits = refl; waits = w; triple_in = o.to_settle.triple_in; result_in = o.to_settle.result_in; unless = o.to_settle.unless; known = o.to_settle.known }
 
       still-root : parent anc r.marks me ≡ none → parent anc after me ≡ none
       still-root z = no_parent anc after me (λ k b. has_add_more r.marks q k (no_parent_all anc r.marks me (omega arith) z k b))
@@ -275,7 +275,7 @@ module _ (anc : ℕ → ℕ) (n me : ℕ) (small : n ≤ 64) (own : me < n) wher
   acknowledge_in_order r o =
       done_in_order r.marks r.marks (saying (admitting r.marks r) silent) nobody
       (record {
-        to_settle = record { marks_in_lem = o.to_settle.marks_in_lem; acknowledged_marked = λ k h. h; heard_in = o.to_settle.heard_in; owed_in = o.to_settle.owed_in; awaits = o.to_settle.awaits; waits = o.to_settle.waits; triple_in = o.to_settle.triple_in; result_in = o.to_settle.result_in; unless = o.to_settle.unless; known = o.to_settle.known };
+        to_settle = record { marks_inside = o.to_settle.marks_inside; acknowledged_marked = λ k h. h; heard_in = o.to_settle.heard_in; owed_in = o.to_settle.owed_in; awaits = o.to_settle.awaits; waits = o.to_settle.waits; triple_in = o.to_settle.triple_in; result_in = o.to_settle.result_in; unless = o.to_settle.unless; known = o.to_settle.known };
         gathers = o.gathers;
       })
       (record { marks_are = refl; acknowledged_are = refl })
@@ -285,7 +285,7 @@ module _ (anc : ℕ → ℕ) (n me : ℕ) (small : n ≤ 64) (own : me < n) wher
   pub fresh_rank_in_order : RankInOrder anc n me (fresh_rank anc n me)
   unfolding fresh_rank
   fresh_rank_in_order = record {
-    to_settle = record { marks_in_lem = within_none n me; acknowledged_marked = λ k h. h; heard_in = within_none n me; owed_in = within_none n me; awaits = refl; waits = λ e. absurd (omega arith); triple_in = fresh_within n; result_in = zero_within n; unless = λ e. refl; known = omega arith };
+    to_settle = record { marks_inside = within_none n me; acknowledged_marked = λ k h. h; heard_in = within_none n me; owed_in = within_none n me; awaits = refl; waits = λ e. absurd (omega arith); triple_in = fresh_within n; result_in = zero_within n; unless = λ e. refl; known = omega arith };
     gathers = λ e. absurd (omega arith);
   }
 

@@ -190,7 +190,7 @@ module _ (anc : ℕ → ℕ) (tree : Ancestry anc) (n me : ℕ) (small : n ≤ 6
       ))
       (λ g h. (
         stays anc n me 0 0 r v silent refl (has_add_more r.marks q) (λ y k. inl k) (λ y k. k) (λ y k. k) (silent_fits v)
-            (λ e z c k. inl (child_i anc n r.marks me c (child_not_gained anc tree n r.marks q me (omega arith) own l z o.to_settle.marks_in_lem.without d (λ b. h e z (child_i anc n r.marks me q b)) c (child_o anc n after me c k))))
+            (λ e z c k. inl (child_i anc n r.marks me c (child_not_gained anc tree n r.marks q me (omega arith) own l z o.to_settle.marks_inside.without d (λ b. h e z (child_i anc n r.marks me q b)) c (child_o anc n after me c k))))
             (λ e. inl (sym (parent_stays anc r.marks q me (g e))))
             (takes_none anc me 0 r v silent),
         refl,

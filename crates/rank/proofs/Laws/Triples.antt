@@ -82,7 +82,7 @@ closing_within n marks t x m = record {
 
 pub proposal_within : (anc : ℕ → ℕ) (n me w : ℕ) (r : Rank) → ToSettle anc n me r → TripleWithin n (proposal w r)
 unfolding proposal
-proposal_within anc n me w r f = record { known_in = f.marks_in_lem.inside; acknowledged_in = λ k h. f.marks_in_lem.inside k (f.acknowledged_marked k h) }
+proposal_within anc n me w r f = record { known_in = f.marks_inside.inside; acknowledged_in = λ k h. f.marks_inside.inside k (f.acknowledged_marked k h) }
 
 -- ---- its members
 

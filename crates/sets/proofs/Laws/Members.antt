@@ -188,7 +188,7 @@ ext =
 
 -- ---- the ranks below a bound
 
--- a member of `setOf f n` is below n and passes f
+-- a member of `set_of f n` is below n and passes f
 pub has-set_of : (f : ℕ → Bool) (n k : ℕ) → has (set_of f n) k ≡ ltb k n && f k
 unfolding set_of
 has-set_of f zero k = has-zero k ∙ sym (ap (λ (b : Bool). b && f k) (le-ltb k 0 (omega arith)))
