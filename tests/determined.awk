@@ -11,8 +11,17 @@ function without(text, part,   i) {
 }
 
 # The theorem says: two replies t and u to one call, each as the contract has it, are the same, and so is every `&mut` at exit. No more premises.
-function determines(said, as,   start, i, at) {
-    start = "(κs : Lfts _) (a : _) (t u : _) (x y : _) → " as ".Post κs a t x → " as ".Post κs a u y → "
+# That of a generic function says it whatever its constants and types are: it names them first, and hands all of them to both contracts, in order.
+function determines(said, as,   start, i, at, generic, given) {
+    i = index(said, "(κs : ")
+    generic = substr(said, 1, i - 1); said = substr(said, i)
+    if (generic !~ /^([(][^():]+ : [^():]+[)] )*$/) return 0
+    while (match(generic, /^[(][^:]+ : /)) {
+        given = given substr(generic, 2, RLENGTH - 4) " "
+        sub(/^[^)]*[)] /, "", generic)
+    }
+    if (given != "") gsub(/[.]Post-at /, ".Post ", said)
+    start = "(κs : Lfts _) (a : _) (t u : _) (x y : _) → " as ".Post " given "κs a t x → " as ".Post " given "κs a u y → "
     if (index(said, start) != 1) return 0
     said = substr(said, length(start) + 1)
     said = without(said == "t ≡ u" ? "(t ≡ u)" : said, "(t ≡ u)")
@@ -39,7 +48,7 @@ function judge(   i, path, as) {
     for (i = 0; i < depth; i++) path = path scope[i] "."
     as = alias[crate, path name]
     path = crate "." path name; gsub(/[.]/, "::", path)
-    sub(/^[^(]*[(]/, "", header); sub(/[)].*/, "", header)
+    sub(/<.*>[(]/, "(", header); sub(/^[^(]*[(]/, "", header); sub(/[)].*/, "", header)
     params = split(header, param, ",")
     seen[path] = 1
     if (index(" " exceptions " ", " " path " ")) return

@@ -80,8 +80,9 @@ specs && current != "" && !/^ *--/ && !/^ *$/ {
     for (i = 1; i <= n; i++) if (!seen[current, word[i]]++) use[current, ++uses[current]] = word[i]
 }
 
-# a clause without its own name
+# a clause without its own name; what a ghost parameter is, and what a ghost field or the invariant of a model says
 code && /^ *(requires|ensures)/ { sub(/^ *(requires|ensures)[*]?( [a-z0-9_]+)? [{]/, ""); ask[++asked] = FILENAME "\t" $0 }
+code && /^ *(pub )?ghost [a-zA-Z_]+(: [{]| = [{])/ { sub(/^ *(pub )?ghost [a-zA-Z_]+(:| =) [{]/, ""); ask[++asked] = FILENAME "\t" $0 }
 
 !specs && !code && /^ *pub [^ ]+ : / { statement = 1; ask[++asked] = FILENAME "\t" $0; next }
 !specs && !code && /^ *(unfolding |[^ ]+ [^:]*= ?|[^ ]+ =)/ { statement = 0 }

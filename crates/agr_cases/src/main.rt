@@ -2,28 +2,12 @@
 // The model of tests/model made them and the file stdout beside src/, which holds the listings that it expects.
 #![tactic(auto)]
 
-ghost use Rattle.std.specs.Prelude.{All, ◌<◌};
-
+use arrayvec::ArrayString;
+use std::fmt::Write as _;
 use std::fs::File;
+use std::io;
 use std::io::Write;
 use std::rt::Files;
-use std::{io, str};
-
-// A file's name from its number.
-fn name(k: u32) -> [u8; 7]
-    requires { k < 1000 }
-    ensures ascii { All (λ b. b < 128) result }
-{
-    [
-        48 + (k / 100) as u8,
-        48 + (k / 10 % 10) as u8,
-        48 + (k % 10) as u8,
-        b'.',
-        b'a',
-        b'g',
-        b'r',
-    ]
-}
 
 // Opens a file and prints what the program prints of it.
 fn print<F: Files, W: Write>(files: &F, to: &mut W, path: &str) -> io::Result<()> {
@@ -34,9 +18,9 @@ fn print<F: Files, W: Write>(files: &F, to: &mut W, path: &str) -> io::Result<()
 fn main(rt: HostRuntime) -> io::Result<()> {
     let mut to = rt.stdout();
     for k in 0..204u32 {
-        let bytes = name(k);
-        let path = str::from_utf8(&bytes).unwrap();
-        print(&rt, &mut to, path)?;
+        let mut name = ArrayString::<7>::new();
+        write!(name, "{k:03}.agr")?;
+        print(&rt, &mut to, &name)?;
     }
     Ok(())
 }

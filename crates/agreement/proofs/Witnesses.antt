@@ -26,7 +26,7 @@ use Rattle.rank.specs.declared.Triple.{Triple}
 use Rattle.rank.specs.Words.{outside, decided}
 use Rattle.rank.specs.Triples.{fresh_triple, combine, closing, code}
 use Rattle.net.specs.Net.{joining, padded, without}
-use Rattle.events.specs.Events.{event_of, names_rank, names_place}
+use Rattle.events.specs.Events.{event_of}
 use Rattle.refusals.specs.Refusing.{wrong_kind, wrong_rank, no_message, is_dead, not_outside, is_living, is_last, both_live, late_refusal, refusal}
 use Rattle.state.specs.Starting.{first_rank, first_row, fresh_state, started}
 use Rattle.state.specs.States.{rank_at}
@@ -36,7 +36,7 @@ use Rattle.plans.specs.Plans.{subject, refusing, accepting, afterwards, fitting,
 use Rattle.group.specs.Events.{posted, applied, refused, carried, subject_of, plan_of, stepped, event}
 use Rattle.group.specs.Reaching.{Reaches, begun, next}
 use Rattle.playing.specs.Playing.{Run, written, told}
-use Rattle.files.specs.Files.{byte_at, short_at, number_at, event_at, events_in, wrong_mark, wrong_version, broken, header, number_of}
+use Rattle.files.specs.Files.{byte_at, short_at, number_at, event_at, events_in, wrong_mark, wrong_version, broken, header}
 use Rattle.files.specs.Cases.{file}
 use Rattle.schedule.specs.Runs.{refused_run}
 use Rattle.schedule.specs.Steps.{stepping, stepped_on, stepped_run}
@@ -48,7 +48,7 @@ use Rattle.agreement.specs.Agreement.{is_entry, has_entered, proposal_of}
 use Rattle.agreement.specs.Witnesses.{mourned, absent, busy, untold, bereft, late, since, unheard, slice, runs, ended, is_quiet, all_entered, all_deaths_known, all_decided, shown, knows, LivesWith, DiedWith, witnesses}
 
 pub the_tests_pass : all witnesses ≡ true
-unfolding has only union meet minus add below set_of count largest smallest listed every all and_then moved_below wrong_size misshapen same lineage ancestors half flat parent children row entry fresh moves sized moved proper triple_within is_zero clauses rank_in_order becoming combining concluding owing admitting proposal parent_of children_of awaiting fresh_rank hearing viewing in_phase saying deciding settled done settling entering noting raised taking_up lowered taking_down asked taking_ask renewing regathering orphaned inheriting bereaved noticing acknowledging silent reports tells asks letter letters fresh_triple combine closing code subject refusing accepting afterwards fitting delivered acting planned posted joining applied refused carried subject_of plan_of stepped padded without is_within member_in_order zero_record stranger_in_order seat_in_order seat_in_order_at message_in_order zero_place place_in_order place_in_order_at in_order event names_rank names_place wrong_kind wrong_rank no_message is_dead not_outside is_living is_last both_live late_refusal refusal first_rank first_row fresh_state started byte_at short_at number_at event_at events_in wrong_mark wrong_version broken header number_of written told stepping stepped_on stepped_run refused_run then file three mourned absent busy untold bereft late since unheard slice runs ended is_quiet all_entered all_deaths_known all_decided shown knows witnesses
+unfolding has only union meet minus add below set_of count largest smallest listed every all and_then moved_below wrong_size misshapen same lineage ancestors half flat parent children row entry fresh moves sized moved proper triple_within is_zero clauses rank_in_order becoming combining concluding owing admitting proposal parent_of children_of awaiting fresh_rank hearing viewing in_phase saying deciding settled done settling entering noting raised taking_up lowered taking_down asked taking_ask renewing regathering orphaned inheriting bereaved noticing acknowledging silent reports tells asks letter letters fresh_triple combine closing code subject refusing accepting afterwards fitting delivered acting planned posted joining applied carried subject_of plan_of stepped padded without is_within member_in_order zero_record stranger_in_order seat_in_order seat_in_order_at message_in_order zero_place place_in_order place_in_order_at in_order event wrong_kind wrong_rank no_message is_dead not_outside is_living is_last both_live late_refusal refusal first_rank first_row fresh_state started byte_at short_at number_at event_at events_in wrong_mark wrong_version broken header written told stepping stepped_on stepped_run refused_run then file three mourned absent busy untold bereft late since unheard slice runs ended is_quiet all_entered all_deaths_known all_decided shown knows witnesses
 the_tests_pass = refl
 
 -- ---- from the tests to the words

@@ -2,7 +2,6 @@
 use super::script::Case;
 use super::sums::Sums;
 use super::{by_hand, script, show, sums};
-use playing::Ran;
 use state::State;
 use std::io;
 use std::io::Write;
@@ -30,6 +29,13 @@ fn first(before: u32, answer: u32) -> u32 {
     answer
 }
 
+// What one call answers, as a number, and the state that it leaves.
+#[derive(Clone, Copy)]
+struct Ran {
+    answer: u32,
+    state: State,
+}
+
 fn no_call(state: State) -> Ran {
     Ran {
         answer: MARK,
@@ -39,16 +45,16 @@ fn no_call(state: State) -> Ran {
 
 // One call on a stretch of the numbers. One that is not there, or more places than there are, is no call.
 fn run(numbers: &[u32], from: usize, to: usize, places: &mut [u32], lent: usize, s: State) -> Ran {
-    if to < from {
+    if to < from || numbers.len() < to || places.len() < lent {
         return no_call(s);
     }
-    if numbers.len() < to {
-        return no_call(s);
+    match batches::lend(&numbers[from..to], &mut places[..lent], s) {
+        Ok(state) => Ran { answer: 0, state },
+        Err(r) => Ran {
+            answer: r.refusal.number(),
+            state: r.state,
+        },
     }
-    if places.len() < lent {
-        return no_call(s);
-    }
-    batches::lend(&numbers[from..to], &mut places[..lent], s)
 }
 
 // The call for a part that begins `at` numbers after the whole run does.
@@ -62,26 +68,22 @@ fn part<W: Write>(
     lent: usize,
     t: Told,
 ) -> io::Result<Told> {
-    let from = script::plus(c.from, at);
+    let from = c.from.wrapping_add(at);
     let mut places = [MARK; MOST];
-    let before = t.state;
     let ran = run(
         numbers,
         from,
-        script::plus(from, count),
+        from.wrapping_add(count),
         &mut places,
         lent,
-        before,
+        t.state,
     );
-    let answer = ran.answer;
-    write!(out, " {answer}")?;
-    let beside = t.places;
-    let state = ran.state;
+    write!(out, " {}", ran.answer)?;
     Ok(Told {
-        answer: first(t.answer, answer),
-        places: sums::places(beside, whole, at, &places, count),
+        answer: first(t.answer, ran.answer),
+        places: sums::places(t.places, whole, at, &places, count),
         past: sums::past(t.past, &places, count, MARK),
-        state,
+        state: ran.state,
     })
 }
 
@@ -102,11 +104,11 @@ fn parts<W: Write>(
     };
     let mut at: usize = 0;
     for k in 0..total {
-        let place = script::plus(c.list, script::plus(k, k));
+        let place = c.list.wrapping_add(k.wrapping_mul(2));
         let count = script::length(numbers, place, 0);
         let lent = script::length(numbers, place, 1);
         t = part(out, c, numbers, whole, at, count, lent, t)?;
-        at = script::plus(at, count);
+        at = at.wrapping_add(count);
     }
     Ok(t)
 }
@@ -119,18 +121,18 @@ fn verdict(same: bool) -> &'static str {
 }
 
 fn compare<W: Write>(out: &mut W, answer: u32, past: u32, state: State, t: Told) -> io::Result<()> {
-    let held = sums::states(state, t.state);
-    let places = t.places;
-    show::line(out, "whole", answer, places.a, past, held.a)?;
-    show::line(out, "parts", t.answer, places.b, t.past, held.b)?;
-    let said = verdict((answer == t.answer) & (past == t.past) & places.same & held.same);
+    let held = sums::states(&state, &t.state);
+    show::line(out, "whole", answer, t.places.a, past, held.a)?;
+    show::line(out, "parts", t.answer, t.places.b, t.past, held.b)?;
+    let said = verdict((answer == t.answer) & (past == t.past) & t.places.same & held.same);
     writeln!(out, "{said}")
 }
 
 fn start(size: u32, form: u32, span: u32, hand: u32) -> State {
-    let started = state::start(size, form, span);
-    let fresh = started.state;
-    by_hand::after(fresh, hand)
+    match state::start(size, form, span) {
+        Ok(s) => by_hand::after(s, hand),
+        Err(r) => by_hand::after(r.state, hand),
+    }
 }
 
 pub fn play<W: Write>(out: &mut W, numbers: &[u32], c: Case) -> io::Result<()> {

@@ -1,6 +1,6 @@
 // Two runs of numbers side by side: the checksum of each, and whether they are the same, number by number.
 // A checksum takes each number in turn, h * 1000003 + x, modulo the prime 4294967291; of 64 bits first the low half, then the high.
-use super::script::{number, plus};
+use super::script::number;
 use rank::{Message, Rank, Triple};
 use state::State;
 
@@ -49,15 +49,11 @@ fn triple(t: Sums, x: Triple, y: Triple) -> Sums {
     take_long(known, x.acknowledged, y.acknowledged)
 }
 
-fn triples(t: Sums, x: Rank, y: Rank) -> Sums {
-    let x_triple = x.triple;
-    let y_triple = y.triple;
-    let x_result = x.result;
-    let y_result = y.result;
-    triple(triple(t, x_triple, y_triple), x_result, y_result)
+fn triples(t: Sums, x: &Rank, y: &Rank) -> Sums {
+    triple(triple(t, x.triple, y.triple), x.result, y.result)
 }
 
-fn rank(t: Sums, x: Rank, y: Rank) -> Sums {
+fn rank(t: Sums, x: &Rank, y: &Rank) -> Sums {
     let phase = take(t, x.phase as u32, y.phase as u32);
     let marks = take_long(phase, x.marks, y.marks);
     let acknowledged = take_long(marks, x.acknowledged, y.acknowledged);
@@ -67,73 +63,52 @@ fn rank(t: Sums, x: Rank, y: Rank) -> Sums {
     triples(owed, x, y)
 }
 
-fn ranks(before: Sums, x: [Rank; 64], y: [Rank; 64]) -> Sums {
+// Of two arrays, place by place.
+fn over<T, const N: usize, F: Fn(Sums, &T, &T) -> Sums>(
+    before: Sums,
+    x: &[T; N],
+    y: &[T; N],
+    each: F,
+) -> Sums
+    requires { F.IsAlwaysCallable each }
+{
     let mut t = before;
-    for k in 0..64usize {
-        t = rank(t, x[k], y[k]);
+    for k in 0..N {
+        t = each(t, &x[k], &y[k]);
     }
     t
 }
 
-fn message(t: Sums, x: Message, y: Message) -> Sums {
+fn message(t: Sums, x: &Message, y: &Message) -> Sums {
     let kind = take(t, x.kind as u32, y.kind as u32);
     let from = take(kind, x.from as u32, y.from as u32);
     let to = take(from, x.to as u32, y.to as u32);
-    let x_triple = x.triple;
-    let y_triple = y.triple;
-    triple(to, x_triple, y_triple)
+    triple(to, x.triple, y.triple)
 }
 
-fn messages(before: Sums, x: [Message; 128], y: [Message; 128]) -> Sums {
-    let mut t = before;
-    for k in 0..128usize {
-        t = message(t, x[k], y[k]);
-    }
-    t
+fn row(t: Sums, x: &[u8; 64], y: &[u8; 64]) -> Sums {
+    over(t, x, y, |t, a, b| take(t, *a as u32, *b as u32))
 }
 
-fn entry(t: Sums, x: u8, y: u8) -> Sums {
-    take(t, x as u32, y as u32)
-}
-
-fn row(before: Sums, x: [u8; 64], y: [u8; 64]) -> Sums {
-    let mut t = before;
-    for k in 0..64usize {
-        t = entry(t, x[k], y[k]);
-    }
-    t
-}
-
-fn tables(before: Sums, x: [[u8; 64]; 64], y: [[u8; 64]; 64]) -> Sums {
-    let mut t = before;
-    for k in 0..64usize {
-        t = row(t, x[k], y[k]);
-    }
-    t
-}
-
-// Of all that two states have: size, dead, count, the 64 ranks, the 128 places of messages, the 64 tables.
-pub fn states(x: State, y: State) -> Sums {
-    let g = x.group;
-    let h = y.group;
-    let g_ranks = g.ranks;
-    let h_ranks = h.ranks;
-    let g_net = g.net;
-    let h_net = h.net;
+// Of all that two states have: size, form, box size, count, dead, the 64 ranks, the 128 places of messages, the 64 tables.
+pub fn states(x: &State, y: &State) -> Sums {
+    let g = &x.group;
+    let h = &y.group;
     let size = take(none(), g.n as u32, h.n as u32);
     let form = take(size, g.form as u32, h.form as u32);
     let span = take(form, g.span as u32, h.span as u32);
     let count = take(span, g.count as u32, h.count as u32);
     let dead = take_long(count, g.dead, h.dead);
-    let group = messages(ranks(dead, g_ranks, h_ranks), g_net, h_net);
-    tables(group, state::tables_of(x), state::tables_of(y))
+    let ranks = over(dead, &g.ranks, &h.ranks, rank);
+    let messages = over(ranks, &g.net, &h.net, message);
+    over(messages, &x.tables, &y.tables, row)
 }
 
 // Of so many answer places: those of the whole from a place on, and a part's.
 pub fn places(before: Sums, whole: &[u32], from: usize, part: &[u32], count: usize) -> Sums {
     let mut t = before;
     for k in 0..count {
-        t = take(t, number(whole, plus(from, k)), number(part, k));
+        t = take(t, number(whole, from.wrapping_add(k)), number(part, k));
     }
     t
 }
@@ -141,9 +116,9 @@ pub fn places(before: Sums, whole: &[u32], from: usize, part: &[u32], count: usi
 // How many places from one on do not hold the mark any more.
 pub fn past(before: u32, places: &[u32], from: usize, mark: u32) -> u32 {
     let mut found = before;
-    for k in from..places.len() {
-        if places[k] != mark {
-            found = std::num::wrapping_add_u32(found, 1);
+    for place in places.iter().skip(from) {
+        if *place != mark {
+            found = found.wrapping_add(1);
         }
     }
     found

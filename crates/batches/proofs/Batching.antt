@@ -45,7 +45,7 @@ module _ (anc : ℕ → ℕ) (numbers out : List ℕ) (s : State) where
 
   -- there is room, and the batch is the play
   taken : (C : Type 0) → (batch anc numbers out s).answer ≡ 0 → (3 * events_of numbers ≤ length out → batch anc numbers out s ≡ played anc (event_in numbers) (events_of numbers) 0 s out → C) → C
-  unfolding batch too_short refused_batch
+  unfolding batch refused_batch
   taken C z go = first (passes_or_fails (uneven numbers)) (passes_or_fails (too_short numbers out))
     where
       first : (uneven numbers ≡ true) ⊎ (uneven numbers ≡ false) → (too_short numbers out ≡ true) ⊎ (too_short numbers out ≡ false) → C

@@ -5,15 +5,15 @@ use Rattle.state.specs.declared.State.{State}
 use Rattle.playing.specs.Playing.{Run, event_in, played, spelt}
 
 -- How many events a run of numbers has.
-unfoldable pub events_of : List ℕ → ℕ
+abbrev pub events_of : List ℕ → ℕ
 events_of numbers = length numbers / 3
 
 -- 40: the length is not a multiple of three.
-unfoldable pub uneven : List ℕ → Bool
+abbrev pub uneven : List ℕ → Bool
 uneven numbers = not (eqb (length numbers % 3) 0)
 
 -- 41: the answer slice is too short for three numbers an event.
-unfoldable pub too_short : List ℕ → List ℕ → Bool
+abbrev pub too_short : List ℕ → List ℕ → Bool
 too_short numbers out = ltb (length out) (3 * events_of numbers)
 
 -- Both come before any event, and then nothing that was lent has changed.

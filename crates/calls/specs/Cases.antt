@@ -4,9 +4,8 @@ use Rattle.sets.specs.Sets.{has, union, meet, below, count, every}
 use Rattle.tree.specs.Tree.{flat, fresh, digits}
 use Rattle.tree.specs.Forms.{flat_form}
 use Rattle.tree.specs.Calls.{same, moved_below}
-use Rattle.calls.specs.Calls.{marked, climbed}
+use Rattle.calls.specs.Calls.{Marked, marked, climbed}
 use Rattle.calls.specs.Examples.{tallies, tells}
-use Rattle.calls.specs.declared.Marked.{Marked}
 
 -- A mark answers this number, marks and table, and nobody moved.
 unfoldable pub answers : Marked → ℕ → ℕ → List ℕ → Bool

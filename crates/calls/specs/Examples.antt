@@ -3,9 +3,8 @@ use Rattle.std.specs.Prelude.{ℕ, Bool, ◌&&◌, List, [], ◌∷◌, ◌++◌
 use Rattle.tree.specs.Tree.{flat, fresh}
 use Rattle.tree.specs.Forms.{flat_form}
 use Rattle.tree.specs.Calls.{same}
-use Rattle.calls.specs.Calls.{Told, marked, climbed}
+use Rattle.calls.specs.Calls.{Marked, Told, marked, climbed}
 use Rattle.tree.specs.declared.Moved.{Moved}
-use Rattle.calls.specs.declared.Marked.{Marked}
 
 -- A view of 8 ranks has these parents, and 255 from 8 on.
 unfoldable pub parents8 : List ℕ → List ℕ → Bool

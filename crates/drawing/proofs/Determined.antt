@@ -9,5 +9,5 @@ use Rattle.drawing.proofs.report.Reads as report
 
 -- The length, the buffer, and the slice of answers.
 pub report_determined : (κs : Lfts 3) (a : _) (t u : ℕ) (x y : _) → report.Post κs a t x → report.Post κs a u y
-    → ((t ≡ u) × (x.1.1.1.0.now ≡ y.1.1.1.0.now)) × (x.1.1.0.now ≡ y.1.1.0.now)
+    → ((t ≡ u) × (x.1.1.0.now ≡ y.1.1.0.now)) × (x.1.0.now ≡ y.1.0.now)
 report_determined κs a t u x y e f = (wrote_alike e.0 f.0, alike e.1 f.1)

@@ -23,8 +23,7 @@ use Rattle.schedule.proofs.Laws.Slices.{same-run}
 use Rattle.schedule.proofs.Reaching.{run_reaches}
 use Rattle.listing.specs.Listings.{file_room, answers_room, report}
 use Rattle.listing.proofs.Laws.Reporting.{report-line}
-use Rattle.pictures.specs.Reading.{IsView, Reads}
-use Rattle.pictures.specs.declared.Viewed.{Viewed}
+use Rattle.pictures.specs.Reading.{IsView, Viewed, Reads}
 use Rattle.pictures.proofs.Laws.Calls.{is_view}
 use Rattle.pictures.proofs.RoundTrip.{a_picture_is_read}
 use Rattle.drawing.specs.Drawings.{rank_picture, drawing_of, drawing}

@@ -1,6 +1,6 @@
 -- What the program `views` prints of a schedule: the picture of each living rank's view at the end, ascending by rank, one digraph after the
 -- other; of a refused file what `agr` prints, its one line.
-use Rattle.std.specs.Prelude.{ℕ, ◌*◌, cond, List, [], eqb}
+use Rattle.std.specs.Prelude.{ℕ, ◌+◌, ◌-◌, ◌*◌, cond, List, [], eqb}
 use Rattle.sets.specs.Sets.{has}
 use Rattle.state.specs.declared.State.{State}
 use Rattle.state.specs.States.{rank_at}
@@ -24,6 +24,10 @@ drawing_of r = cond (eqb r.answer 0) (rank_pictures r.state) (refused_line r.ans
 
 unfoldable pub drawing : List ℕ → List ℕ → List ℕ
 drawing file out = drawing_of (run file out)
+
+-- A picture's room in a group of n ranks: what a size of at most 64 takes, and 50 bytes for each rank more.
+abbrev pub rank_room : ℕ → ℕ
+rank_room n = picture_room + 50 * (n - 64)
 
 -- What the caller lends to draw: room for 64 pictures.
 abbrev pub drawing_room : ℕ

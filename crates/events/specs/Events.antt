@@ -27,8 +27,8 @@ abbrev pub event_of : ℕ → ℕ → ℕ → Event
 event_of kind a b = record { kind = kind; a = a; b = b }
 
 -- a names a rank, for kinds 1, 3, 4 and 6; it names a place, for kinds 2 and 5.
-unfoldable pub names_rank : ℕ → Bool
+abbrev pub names_rank : ℕ → Bool
 names_rank kind = eqb kind enters || eqb kind crashes || eqb kind notices || eqb kind acknowledges
 
-unfoldable pub names_place : ℕ → Bool
+abbrev pub names_place : ℕ → Bool
 names_place kind = eqb kind delivers || eqb kind loses

@@ -4,6 +4,7 @@
 ghost use Rattle.std.specs.Prelude.{◌≡◌};
 ghost use Rattle.events.specs.Events.{names_place, names_rank};
 
+// The kinds stay numbers: a caller may hand in any, and 3 refuses those that are none of these.
 pub const ENTERS: u32 = 1;
 
 pub const DELIVERS: u32 = 2;
@@ -26,11 +27,11 @@ pub struct Event {
 pub fn names_rank(kind: u32) -> bool
     ensures { result ≡ names_rank kind }
 {
-    (kind == ENTERS) | (kind == CRASHES) | (kind == NOTICES) | (kind == ACKNOWLEDGES)
+    matches!(kind, ENTERS | CRASHES | NOTICES | ACKNOWLEDGES)
 }
 
 pub fn names_place(kind: u32) -> bool
     ensures { result ≡ names_place kind }
 {
-    (kind == DELIVERS) | (kind == LOSES)
+    matches!(kind, DELIVERS | LOSES)
 }

@@ -1,3 +1,2 @@
 -- All that the crates above cite of a file.
-pub mod Files
 pub mod Opening

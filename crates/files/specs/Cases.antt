@@ -1,13 +1,14 @@
 -- Closed tests: a file for each number that a header gets, each check beside the next, and the longest file.
 use Rattle.std.specs.Prelude.{ℕ, Bool, List, [], ◌∷◌, eqb, replicate}
-use Rattle.files.specs.Files.{header, number_of}
+use Rattle.answers.specs.Answers.{answer_of}
+use Rattle.files.specs.Files.{header}
 
 -- A file of n ranks with these bytes after its first six.
 unfoldable pub file : ℕ → List ℕ → List ℕ
 file n rest = 65 ∷ 71 ∷ 82 ∷ 1 ∷ 0 ∷ n ∷ rest
 
 unfoldable pub gets : List ℕ → ℕ → Bool
-gets bytes number = eqb (number_of (header bytes)) number
+gets bytes number = eqb (answer_of (header bytes)) number
 
 unfoldable pub cases : List Bool
 cases =

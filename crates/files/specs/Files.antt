@@ -1,12 +1,12 @@
 -- The schedule file: three bytes AGR, 16-bit version 1, one byte n, then 9 bytes an event: kind in one byte, a and b in four
 -- each; numbers least byte first.
-use Rattle.std.specs.Prelude.{ℕ, ◌+◌, ◌*◌, ◌-◌, ◌/◌, ◌%◌, Bool, cond, not, ◌&&◌, List, eqb, ltb, length, get_or}
-use Rattle.tree.specs.Refusals.{accepted, bad_size}
+use Rattle.std.specs.Prelude.{ℕ, ◌+◌, ◌*◌, ◌-◌, ◌/◌, ◌%◌, Bool, cond, not, ◌&&◌, List, Result, Ok, Err, eqb, ltb, length, get_or}
+use Rattle.answers.specs.declared.Refusal.{Refusal}
+use Rattle.answers.specs.declared.Refusal.TheVariants.{BadSize, NoHeader, WrongMark, WrongVersion, Broken, TooLong}
 use Rattle.tree.specs.Calls.{wrong_size}
 use Rattle.events.specs.declared.Event.{Event}
 use Rattle.events.specs.Events.{event_of}
 use Rattle.files.specs.declared.Header.{Header}
-use Rattle.files.specs.declared.Header.TheVariants.{Good, NoHeader, WrongMark, WrongVersion, WrongSize, TooLong, Broken}
 
 -- At most 4,096 events, and so at most 36,870 bytes.
 abbrev pub most_events : ℕ
@@ -46,22 +46,12 @@ broken file = not (eqb ((length file - 6) % 9) 0)
 
 -- Checks in order: 20 fewer than 6 bytes; 21 mark; 22 version; 1 size; 24 more than 36,870 bytes; 23 a broken last event. A
 -- good header has the group's size and the number of events.
-unfoldable pub header : List ℕ → Header
+unfoldable pub header : List ℕ → Result Header Refusal
 header file =
-    cond (ltb (length file) 6) NoHeader
-    (cond (wrong_mark file) WrongMark
-    (cond (wrong_version file) WrongVersion
-    (cond (wrong_size (byte_at file 5)) WrongSize
-    (cond (ltb longest (length file)) TooLong
-    (cond (broken file) Broken
-    (Good (byte_at file 5) (events_in file)))))))
-
--- Document 01's number for each header.
-unfoldable pub number_of : Header → ℕ
-number_of (Good n events) = accepted
-number_of NoHeader = 20
-number_of WrongMark = 21
-number_of WrongVersion = 22
-number_of WrongSize = bad_size
-number_of TooLong = 24
-number_of Broken = 23
+    cond (ltb (length file) 6) (Err NoHeader)
+    (cond (wrong_mark file) (Err WrongMark)
+    (cond (wrong_version file) (Err WrongVersion)
+    (cond (wrong_size (byte_at file 5)) (Err BadSize)
+    (cond (ltb longest (length file)) (Err TooLong)
+    (cond (broken file) (Err Broken)
+    (Ok (record { n = byte_at file 5; events = events_in file })))))))

@@ -1,30 +1,25 @@
 // The schedule file: its checks and its events.
-#![tactic(auto)]
+#![tactic(auto, unfolding(crate::specs::Files::byte_at, crate::specs::Files::short_at, crate::specs::Files::number_at, crate::specs::Files::event_at, crate::specs::Files::events_in, crate::specs::Files::wrong_mark, crate::specs::Files::wrong_version, crate::specs::Files::broken, crate::specs::Files::header))]
 
-ghost use Rattle.std.specs.Prelude.{◌≡◌, ◌+◌, ◌*◌, ◌<◌, ◌≤◌, length};
-ghost use Rattle.files.specs.Files.{broken, event_at, events_in, header, number_at, number_of, short_at, wrong_mark};
+ghost use Rattle.std.specs.Prelude.{◌≡◌, ◌+◌, ◌*◌, ◌≤◌, length};
+ghost use Rattle.files.specs.Files.{broken, event_at, events_in, header, number_at, short_at, wrong_mark};
 
+use answers::Refusal;
 use events::Event;
 
-// What a file's first bytes and its length say: the group's size and the number of events, or what is wrong.
+// What a good file's first bytes and its length say: the group's size and the number of events.
 #[derive(Clone, Copy)]
-pub enum Header {
-    Good(u8, u32),
-    NoHeader,
-    WrongMark,
-    WrongVersion,
-    WrongSize,
-    TooLong,
-    Broken,
+pub struct Header {
+    pub n: u8,
+    pub events: u32,
 }
 
 // A number of two bytes, least byte first.
-fn short_at(file: &[u8], i: usize) -> u32
+fn short_at(file: &[u8], i: usize) -> u16
     requires { i + 2 ≤ length file.now }
-    ensures value { result ≡ short_at file.now i }
-    ensures upper_bound { result < 65536 }
+    ensures { result ≡ short_at file.now i }
 {
-    file[i] as u32 + 256 * (file[i + 1] as u32)
+    u16::from_le_bytes([file[i], file[i + 1]])
 }
 
 // A number of four bytes, least byte first.
@@ -32,7 +27,7 @@ fn number_at(file: &[u8], i: usize) -> u32
     requires { i + 4 ≤ length file.now }
     ensures { result ≡ number_at file.now i }
 {
-    short_at(file, i) + 65536 * short_at(file, i + 2)
+    u32::from_le_bytes([file[i], file[i + 1], file[i + 2], file[i + 3]])
 }
 
 // The event at a place of the schedule.
@@ -53,7 +48,7 @@ fn wrong_mark(file: &[u8]) -> bool
     requires { 6 ≤ length file.now }
     ensures { result ≡ wrong_mark file.now }
 {
-    !((file[0] == 65) & ((file[1] == 71) & (file[2] == 82)))
+    !file.starts_with(b"AGR")
 }
 
 // Whether the last event is broken.
@@ -74,41 +69,29 @@ pub fn events_in(file: &[u8]) -> u32
 }
 
 // The checks of a file, in document 01's order.
-pub fn read_header(file: &[u8]) -> Header
+pub fn read_header(file: &[u8]) -> Result<Header, Refusal>
     ensures { result ≡ header file.now }
 {
     if file.len() < 6 {
-        return Header::NoHeader;
+        return Err(Refusal::NoHeader);
     }
     if wrong_mark(file) {
-        return Header::WrongMark;
+        return Err(Refusal::WrongMark);
     }
     if short_at(file, 3) != 1 {
-        return Header::WrongVersion;
+        return Err(Refusal::WrongVersion);
     }
     if tree::wrong_size(file[5] as u32) {
-        return Header::WrongSize;
+        return Err(Refusal::BadSize);
     }
     if 36870 < file.len() {
-        return Header::TooLong;
+        return Err(Refusal::TooLong);
     }
     if broken(file) {
-        return Header::Broken;
+        return Err(Refusal::Broken);
     }
-    Header::Good(file[5], events_in(file))
-}
-
-// Document 01's number for a header.
-pub fn number_of(h: Header) -> u32
-    ensures { result ≡ number_of h }
-{
-    match h {
-        Header::Good(_, _) => 0,
-        Header::NoHeader => 20,
-        Header::WrongMark => 21,
-        Header::WrongVersion => 22,
-        Header::WrongSize => 1,
-        Header::TooLong => 24,
-        Header::Broken => 23,
-    }
+    Ok(Header {
+        n: file[5],
+        events: events_in(file),
+    })
 }

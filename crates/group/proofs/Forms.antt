@@ -6,7 +6,7 @@ use Prim.Native.Nat.{ℕ, ◌+◌}
 use lib.Dec.{eqb}
 use Rattle.tree.specs.Tree.{flat}
 use Rattle.tree.specs.Forms.{tree_of, flat_form}
-use Rattle.tree.specs.Refusals.{accepted}
+use Rattle.answers.specs.Refusals.{accepted}
 use Rattle.tree.specs.Calls.{wrong_size}
 use Rattle.calls.specs.Calls.{misshapen}
 use Rattle.tree.proofs.Laws.Forms.{flat_form_lem}
@@ -14,15 +14,14 @@ use Rattle.tree.proofs.Laws.Calls.{size_pos, size-le, size_right}
 use Rattle.calls.proofs.Laws.Shapes.{Shapely, shapely, shape_right, both_right}
 use Rattle.rank.specs.Sends.{size}
 use Rattle.events.specs.declared.Event.{Event}
-use Rattle.plans.specs.declared.Plan.{Plan}
+use Rattle.plans.specs.Plans.{Planned}
 use Rattle.state.specs.declared.State.{State}
 use Rattle.state.specs.States.{own_tree, with_box}
 use Rattle.state.specs.Starting.{fresh_state, started}
 use Rattle.state.proofs.Laws.Starting.{started-fresh, started-small, fresh_form, fresh_span, fresh_alike}
 use Rattle.order.specs.Order.{in_order}
 use Rattle.order.proofs.Laws.Ordering.{in_order_facts, in_order_alike}
-use Rattle.group.specs.declared.Stepped.{Stepped}
-use Rattle.group.specs.Events.{applied, refused, carried, subject_of, plan_of, stepped, event}
+use Rattle.group.specs.Events.{Stepped, applied, refused, carried, subject_of, plan_of, stepped, event}
 use Rattle.group.specs.Reaching.{Reaches, begun, next, Runs, starts, goes, SameForm, reboxed}
 use Rattle.group.proofs.Laws.Reached.{reached_in_order}
 
@@ -30,10 +29,10 @@ use Rattle.group.proofs.Laws.Reached.{reached_in_order}
 
 -- An event on any state, accepted or not, leaves its form and its box size.
 pub an_event_keeps_the_form : (anc : ℕ → ℕ) (s : State) (ev : Event) → SameForm (event anc s ev).state s
-unfolding event refused stepped carried applied
+unfolding event stepped carried applied
 an_event_keeps_the_form anc s ev = sized (wrong_size s.group.n)
   where
-    p : Plan
+    p : Planned
     p = plan_of anc s ev
 
     taken : (b : Bool) → SameForm (cond {A = Stepped} b (record { answer = accepted; sent = size p.acted.first + size p.acted.second; moved = p.acted.moved; state = applied s ev.a (subject_of s ev) p }) (refused p.answer s)).state s
@@ -75,12 +74,12 @@ the_calls_run_in_their_own n form span s run = subst (λ (anc : ℕ → ℕ). Re
 -- ---- the flat form ignores box size
 
 module _ (anc : ℕ → ℕ) (s : State) (ev : Event) (y : ℕ) (alike : misshapen s.group.n s.group.form y ≡ misshapen s.group.n s.group.form s.group.span) where
-  p : Plan
+  p : Planned
   p = plan_of anc s ev
 
   taken : (b : Bool) → cond {A = Stepped} b (record { answer = accepted; sent = size p.acted.first + size p.acted.second; moved = p.acted.moved; state = applied (with_box y s) ev.a (subject_of s ev) p }) (refused p.answer (with_box y s))
       ≡ reboxed y (cond b (record { answer = accepted; sent = size p.acted.first + size p.acted.second; moved = p.acted.moved; state = applied s ev.a (subject_of s ev) p }) (refused p.answer s))
-  unfolding refused applied
+  unfolding applied
   taken true = refl
   taken false = refl
 
@@ -89,12 +88,10 @@ module _ (anc : ℕ → ℕ) (s : State) (ev : Event) (y : ℕ) (alike : misshap
   step_alike = taken (eqb p.answer accepted)
 
   ordered : (b : Bool) → cond b (stepped anc (with_box y s) ev) (refused 2 (with_box y s)) ≡ reboxed y (cond b (stepped anc s ev) (refused 2 s))
-  unfolding refused
   ordered true = step_alike
   ordered false = refl
 
   sized : (b : Bool) → cond b (refused 1 (with_box y s)) (cond (in_order anc s) (stepped anc (with_box y s) ev) (refused 2 (with_box y s))) ≡ reboxed y (cond b (refused 1 s) (cond (in_order anc s) (stepped anc s ev) (refused 2 s)))
-  unfolding refused
   sized true = refl
   sized false = ordered (in_order anc s)
 

@@ -5,7 +5,6 @@ use mathlib.Core.Bool.{true, false, cond, ◌||◌}
 use mathlib.Core.List.{◌++◌}
 use mathlib.Core.Logic.{inr}
 use Prim.Native.Nat.{ℕ}
-use native.Mathlib.Omega.{arith}
 use lib.Dec.{eqb}
 use lib.ListN.{length}
 use Rattle.sets.specs.Sets.{has, add}
@@ -126,7 +125,7 @@ module _ (anc : ℕ → ℕ) (n : ℕ) (s : State) (run : Reaches anc n s) (a b 
   acknowledges : doing anc s (event_of 6 a b) ≡ acknowledging anc s.group.n a (rank_at s a)
   unfolding doing
   acknowledges =
-      sym (act-acknowledges anc _ _ (event_of 6 a b) _ _ _ _ _ (λ e. omega arith) (λ e. omega arith) (λ e. omega arith) refl refl)
+      sym (act-acknowledges anc _ _ (event_of 6 a b) _ _ _ _ _ refl refl)
       ∙ ap (λ (i : ℕ). acknowledging anc s.group.n i (rank_at s i)) (named-rank s (event_of 6 a b) (names_a_rank 6 (inr (inr (inr refl)))).1)
 
   -- Request 2026-08: rank a's acknowledged set becomes its marks, and the rest of its record stays.

@@ -4,16 +4,14 @@ use Rattle.std.specs.Prelude.{ℕ, Bool, ◌&&◌, List, [], ◌∷◌, ◌++◌
 use Rattle.tree.specs.Tree.{fresh}
 use Rattle.tree.specs.Forms.{flat_form, star_form, nested_form, tree_of}
 use Rattle.tree.specs.Calls.{same}
-use Rattle.calls.specs.Calls.{marked, climbed}
+use Rattle.calls.specs.Calls.{Marked, marked, climbed}
 use Rattle.calls.specs.Examples.{tallies, tells}
-use Rattle.calls.specs.declared.Marked.{Marked}
 use Rattle.rank.specs.Words.{decided}
 use Rattle.events.specs.Events.{event_of}
 use Rattle.state.specs.declared.State.{State}
 use Rattle.state.specs.States.{joined, rank_at, place_at, own_tree}
 use Rattle.state.specs.Starting.{started}
-use Rattle.group.specs.declared.Stepped.{Stepped}
-use Rattle.group.specs.Events.{event}
+use Rattle.group.specs.Events.{Stepped, event}
 use Rattle.group.specs.Examples.{answers}
 
 -- A table of so many ranks has these parents, and 255 past them.

@@ -7,8 +7,7 @@ use Rattle.rank.specs.Words.{decided}
 use Rattle.events.specs.Events.{event_of}
 use Rattle.state.specs.States.{rank_at}
 use Rattle.state.specs.Starting.{started}
-use Rattle.group.specs.declared.Stepped.{Stepped}
-use Rattle.group.specs.Events.{event}
+use Rattle.group.specs.Events.{Stepped, event}
 
 unfoldable pub answers : Stepped → ℕ → ℕ → Bool
 answers r number sent = eqb r.answer number && eqb r.sent sent

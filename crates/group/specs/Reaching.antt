@@ -3,13 +3,12 @@ use Rattle.std.specs.Prelude.{ℕ, ◌+◌, ◌<◌, ◌≡◌, Bool, true, not,
 use Rattle.sets.specs.Sets.{has, add, union, below, some}
 use Rattle.tree.specs.Tree.{fresh, ended_at}
 use Rattle.tree.specs.Forms.{tree_of}
-use Rattle.tree.specs.Refusals.{accepted}
+use Rattle.answers.specs.Refusals.{accepted}
 use Rattle.events.specs.declared.Event.{Event}
 use Rattle.state.specs.declared.State.{State}
 use Rattle.state.specs.States.{own_tree, with_box}
 use Rattle.state.specs.Starting.{started}
-use Rattle.group.specs.declared.Stepped.{Stepped}
-use Rattle.group.specs.Events.{event}
+use Rattle.group.specs.Events.{Stepped, event}
 
 -- A run of a group of n along any ancestor sets: from an accepted start, by accepted events.
 pub data Reaches (anc : ℕ → ℕ) (n : ℕ) : State → Type 0 where

@@ -1,25 +1,27 @@
 // The group: one event on a state handed in. The entry point for callers is event; it refuses bad input and requires nothing.
 #![tactic(auto)]
 
-ghost use Rattle.std.specs.Prelude.{◌≡◌, cond, true, ◌+◌, ◌-◌, ◌<◌, ◌≤◌, take};
+ghost use Rattle.std.specs.Prelude.{◌≡◌, cond, true, ◌+◌, ◌-◌, ◌<◌, ◌≤◌, length};
 ghost use Rattle.sets.specs.Sets.{add};
 ghost use Rattle.rank.specs.Sends.{size};
-ghost use Rattle.net.specs.Net.{messages_of, padded, placed, Small};
-ghost use Rattle.state.specs.States.{own_tree};
+ghost use Rattle.state.specs.States.{own_tree, rank_at, row_at};
+ghost use Rattle.plans.specs.Plans.{as_planned};
+ghost use Rattle.plans.specs.Plans as Plans;
 ghost use Rattle.order.specs.Between.{InOrder};
-ghost use Rattle.group.specs.Events.{applied, event, plan_of, posted, refused, stepped, subject_of};
+ghost use Rattle.group.specs.Events.{applied, event, plan_of, posted, stepped, subject_of, told};
 ghost use Rattle.group.specs.Between.{Carriable};
 
+use answers::Refusal;
 use events::Event;
-use net::Forwarded;
+use net::Flight;
 use plans::Plan;
-use state::{Group, State};
+use rank::Seat;
+use state::{Refused, State};
 use tree::Moved;
 
-// The answer of event: the number, how many messages were sent, which ranks moved, and the state.
+// What an accepted event answers: how many messages were sent, which ranks moved, and the state.
 #[derive(Clone, Copy)]
 pub struct Stepped {
-    pub answer: u32,
     pub sent: u32,
     pub moved: Moved,
     pub state: State,
@@ -37,128 +39,93 @@ pub fn buried(dead: u64, me: u8, dies: bool) -> u64
 }
 
 // The rank that an event is about.
-fn subject_of(s: State, ev: Event) -> u8
-    ensures { result ≡ subject_of s ev }
+fn subject_of(s: &State, ev: Event) -> u8
+    ensures { result ≡ subject_of s.now ev }
 {
-    let g = s.group;
-    let net = g.net;
-    plans::subject(g.n, ev, net::at(net, ev.a))
+    plans::subject(s.group.n, ev, net::at(s.group.net, ev.a))
 }
 
-// What an event on a state in order will change.
-fn plan_of(s: State, ev: Event) -> Plan
-    requires { InOrder (own_tree s) s }
-    ensures { result ≡ plan_of (own_tree s) s ev }
+// What an event on a state in order will change, or why it is refused.
+fn plan_of(s: &State, ev: Event) -> Result<Plan, Refusal>
+    requires { InOrder (own_tree s.now) s.now }
+    ensures { Plans.told (rank_at s.now (subject_of s.now ev)) (row_at s.now (subject_of s.now ev)) result ≡ plan_of (own_tree s.now) s.now ev }
 {
-    let g = s.group;
-    let net = g.net;
-    let m = net::at(net, ev.a);
+    let g = &s.group;
+    let m = net::at(g.net, ev.a);
     let me = plans::subject(g.n, ev, m);
-    let ranks = g.ranks;
-    let tables = state::tables_of(s);
-    plans::plan_event(
-        g.n,
-        g.form,
-        g.span,
-        g.dead,
-        g.count,
-        ev,
-        m,
-        me,
-        ranks[me as usize],
-        tables[me as usize],
-    )
-}
-
-// The list after a plan: a message has left, if one leaves, and two sends have joined.
-pub fn post(net: &mut [u64; 384], count: u8, place: u32, me: u8, p: Plan) -> Forwarded
-    requires net_value { messages_of net.old ≡ padded (take count (messages_of net.old)) }
-    requires count_bound { count ≤ 128 }
-    requires place_lt_count { p.leaves ≡ true → place < count }
-    requires leaves_bound { count + size p.acted.first + size p.acted.second - cond p.leaves 1 0 ≤ 128 }
-    requires small { Small net.old }
-    ensures small_2 { Small net.new }
-    ensures sent_value { result.sent ≡ size p.acted.first + size p.acted.second }
-    ensures count_value { result.count ≡ (placed (posted (take count (messages_of net.old)) place me p)).count }
-    ensures net_after { messages_of net.new ≡ (placed (posted (take count (messages_of net.old)) place me p)).net }
-{
-    let acted = p.acted;
-    let first = acted.first;
-    let second = acted.second;
-    net::forward(net, count, place, me, p.leaves, first, second)
-}
-
-// Carries an accepted plan out: one rank's record and row, the dead set and the list.
-fn carry(s: State, place: u32, me: u8, p: Plan) -> State
-    requires { Carriable s place me p }
-    ensures { result ≡ applied s place me p }
-{
-    let g = s.group;
-    let acted = p.acted;
-    let given = g.net;
-    let mut net = net::numbers(given, g.count);
-    let after = post(&mut net, g.count, place, me, p);
-    let mut ranks = g.ranks;
-    let mut tables = state::tables_of(s);
-    let rank = acted.rank;
-    let row = acted.row;
-    ranks[me as usize] = rank;
-    tables[me as usize] = row;
-    let group = Group {
+    let row = s.tables[me as usize];
+    let seat = Seat {
         n: g.n,
         form: g.form,
         span: g.span,
-        count: after.count,
-        dead: buried(g.dead, me, p.dies),
-        ranks,
-        net: net::messages(net, after.count),
+        me,
+        rank: g.ranks[me as usize],
+        row,
     };
-    state::join(group, tables)
+    plans::plan_event(seat, g.dead, g.count, ev, m)
 }
 
-// A refused event hands back the state as it came.
-fn refused(answer: u32, s: State) -> Stepped
-    ensures { result ≡ refused answer s }
+// The list after a plan: a message has left, if one leaves, and two sends have joined. Answers how many have joined.
+pub fn post(flight: &mut Flight, place: u32, me: u8, p: Plan) -> u32
+    requires place_in { p.leaves ≡ true → place < length flight.old }
+    requires room { length flight.old + size p.acted.first + size p.acted.second - cond p.leaves 1 0 ≤ 128 }
+    ensures sent { result ≡ size p.acted.first + size p.acted.second }
+    ensures after { flight.new ≡ posted flight.old place me (as_planned p) }
 {
-    Stepped {
-        answer,
-        sent: 0,
-        moved: Moved::nobody(),
-        state: s,
-    }
+    flight.forward(place, me, p.leaves, p.acted.first, p.acted.second)
 }
 
-// One event on a state in order.
-pub fn step(s: State, ev: Event) -> Stepped
+// Carries an accepted plan out: one rank's record and row, the dead set and the list.
+fn carry(mut s: State, place: u32, me: u8, p: Plan) -> State
+    requires { Carriable s place me (as_planned p) }
+    ensures { result ≡ applied s place me (as_planned p) }
+{
+    let mut flight = Flight::of(s.group.net, s.group.count);
+    post(&mut flight, place, me, p);
+    let row = p.acted.row;
+    s.group.count = flight.count();
+    s.group.dead = buried(s.group.dead, me, p.dies);
+    s.group.ranks[me as usize] = p.acted.rank;
+    s.group.net = flight.places();
+    s.tables[me as usize] = row;
+    s
+}
+
+// One event on a state in order. A refusal hands the state back as it came.
+pub fn step(s: State, ev: Event) -> Result<Stepped, Refused>
     requires { InOrder (own_tree s) s }
-    ensures { result ≡ stepped (own_tree s) s ev }
+    ensures { told result ≡ stepped (own_tree s) s ev }
 {
-    let p = plan_of(s, ev);
-    if p.answer != 0 {
-        return refused(p.answer, s);
-    }
-    let acted = p.acted;
-    let first = acted.first;
-    let second = acted.second;
-    let moved = acted.moved;
-    Stepped {
-        answer: 0,
-        sent: sets::size(first.to) as u32 + sets::size(second.to) as u32,
-        moved,
-        state: carry(s, ev.a, subject_of(s, ev), p),
+    match plan_of(&s, ev) {
+        Ok(p) => {
+            let sent = sets::size(p.acted.first.to) as u32 + sets::size(p.acted.second.to) as u32;
+            let me = subject_of(&s, ev);
+            let state = carry(s, ev.a, me, p);
+            Ok(Stepped {
+                sent,
+                moved: p.acted.moved,
+                state,
+            })
+        }
+        Err(refusal) => Err(Refused { refusal, state: s }),
     }
 }
 
 // Entry point: one event on a state handed in, in the state's own form. Refuses with 1 to 11.
-pub fn event(s: State, ev: Event) -> Stepped
-    ensures { result ≡ event (own_tree s) s ev }
+pub fn event(s: State, ev: Event) -> Result<Stepped, Refused>
+    ensures { told result ≡ event (own_tree s) s ev }
 {
-    let g = s.group;
-    if tree::wrong_size(g.n as u32) {
-        return refused(1, s);
+    if tree::wrong_size(s.group.n as u32) {
+        return Err(Refused {
+            refusal: Refusal::BadSize,
+            state: s,
+        });
     }
     if !order::in_order(s) {
-        return refused(2, s);
+        return Err(Refused {
+            refusal: Refusal::NotInOrder,
+            state: s,
+        });
     }
     step(s, ev)
 }

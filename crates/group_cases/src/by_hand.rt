@@ -1,9 +1,8 @@
 // Changes by hand: c the count, d the dead, i the form, x the box size, n a message (kind, from, to, a triple and its place), t a table's entry (whose, of whom, the
 // parent), and of a rank (which, what) p phase, m marks, k acknowledged, h heard, a awaited, o owed, w triple, v result. A triple is a word,
 // the known dead and an acknowledged set. Any other byte changes nothing.
-use super::script::Reader;
 use rank::{Message, Rank, Triple};
-use state::{Group, State};
+use state::State;
 
 pub fn small(n: u32) -> u8 {
     (n % 256) as u8
@@ -17,87 +16,47 @@ fn triple(word: u32, known: u32, acknowledged: u32) -> Triple {
     }
 }
 
-fn field(before: Rank, r: Reader, b: u8) -> Rank {
-    let mut t = before;
+// Of a rank; the last number is what it gets, or the last of a triple's three.
+fn field(mut t: Rank, [.., x, y, z]: [u32; 7], b: u8) -> Rank {
     match b {
-        b'p' => t.phase = small(r.z),
-        b'm' => t.marks = r.z as u64,
-        b'k' => t.acknowledged = r.z as u64,
-        b'h' => t.heard = r.z as u64,
-        b'a' => t.awaited = r.z as u64,
-        b'o' => t.owed = r.z as u64,
-        b'w' => t.triple = triple(r.x, r.y, r.z),
-        b'v' => t.result = triple(r.x, r.y, r.z),
+        b'p' => t.phase = small(z),
+        b'm' => t.marks = z as u64,
+        b'k' => t.acknowledged = z as u64,
+        b'h' => t.heard = z as u64,
+        b'a' => t.awaited = z as u64,
+        b'o' => t.owed = z as u64,
+        b'w' => t.triple = triple(x, y, z),
+        b'v' => t.result = triple(x, y, z),
         _ => {}
     }
     t
 }
 
-// Which rank: its number stands before what it gets.
-fn whose(r: Reader, b: u8) -> u32 {
+pub fn after(mut s: State, last: [u32; 7], b: u8) -> State {
+    let [t, u, v, w, x, y, z] = last;
     match b {
-        b'w' | b'v' => r.w,
-        _ => r.y,
+        b'c' => s.group.count = small(z),
+        b'd' => s.group.dead = z as u64,
+        b'i' => s.group.form = small(z),
+        b'x' => s.group.span = small(z),
+        b'n' => {
+            s.group.net[(z % 128) as usize] = Message {
+                kind: small(t),
+                from: small(u),
+                to: small(v),
+                triple: triple(w, x, y),
+            };
+        }
+        b't' => s.tables[(x % 64) as usize][(y % 64) as usize] = small(z),
+        // A rank's number stands before what it gets.
+        _ => {
+            let rank = match b {
+                b'w' | b'v' => w,
+                _ => y,
+            };
+            let at = (rank % 64) as usize;
+            s.group.ranks[at] = field(s.group.ranks[at], last, b);
+        }
     }
-}
-
-fn ranks_after(ranks: [Rank; 64], r: Reader, b: u8) -> [Rank; 64] {
-    let mut after = ranks;
-    let at = (whose(r, b) % 64) as usize;
-    after[at] = field(after[at], r, b);
-    after
-}
-
-fn net_after(net: [Message; 128], r: Reader, b: u8) -> [Message; 128] {
-    let mut after = net;
-    if b == b'n' {
-        after[(r.z % 128) as usize] = Message {
-            kind: small(r.t),
-            from: small(r.u),
-            to: small(r.v),
-            triple: triple(r.w, r.x, r.y),
-        };
-    }
-    after
-}
-
-fn tables_after(tables: [[u8; 64]; 64], r: Reader, b: u8) -> [[u8; 64]; 64] {
-    let mut after = tables;
-    if b == b't' {
-        let mut row = tables[(r.x % 64) as usize];
-        row[(r.y % 64) as usize] = small(r.z);
-        after[(r.x % 64) as usize] = row;
-    }
-    after
-}
-
-fn group_after(g: Group, r: Reader, b: u8) -> Group {
-    let mut after = g;
-    if b == b'c' {
-        after.count = small(r.z);
-    }
-    if b == b'd' {
-        after.dead = r.z as u64;
-    }
-    if b == b'i' {
-        after.form = small(r.z);
-    }
-    if b == b'x' {
-        after.span = small(r.z);
-    }
-    let ranks = g.ranks;
-    let new_ranks = ranks_after(ranks, r, b);
-    after.ranks = new_ranks;
-    let net = g.net;
-    let new_net = net_after(net, r, b);
-    after.net = new_net;
-    after
-}
-
-pub fn after(s: State, r: Reader, b: u8) -> State {
-    let g = s.group;
-    state::join(
-        group_after(g, r, b),
-        tables_after(state::tables_of(s), r, b),
-    )
+    s
 }

@@ -18,10 +18,9 @@ fn play<W: Write>(out: &mut W, text: &[u8]) -> io::Result<()> {
     let mut r = script::begin();
     for b in text {
         if r.hidden {
-            t = obey::obey(t, r, *b);
-            let moved = t.moved;
-            totals = script::count(totals, *b, t.answer, t.sent, moved.count);
-            show::show(out, t, totals, r.z, *b)?;
+            t = obey::obey(t, r.last, *b);
+            totals = script::count(totals, *b, t.answer, t.sent, t.moved.count);
+            show::show(out, t, totals, r.last[6], *b)?;
         }
         r = script::take(out, r, *b)?;
     }

@@ -1,8 +1,8 @@
 // The commands that print: A the answer of a start, E the answers of an event, W which ranks it moved, F how many messages are in flight, R a
 // rank's line after its number, K its marks and its acknowledged set, T its triple, V its result, N S M the totals.
 use super::by_hand::small;
+use super::obey::Told;
 use super::script::Totals;
-use group::Stepped;
 use rank::{Rank, Triple};
 use state::State;
 use std::io;
@@ -15,38 +15,28 @@ fn answers<W: Write>(out: &mut W, answer: u32, sent: u32, moved: u32) -> io::Res
 
 // Word, known dead, acknowledged set.
 fn triple<W: Write>(out: &mut W, t: Triple) -> io::Result<()> {
-    let word = t.word;
-    let known = t.known;
-    let acknowledged = t.acknowledged;
-    write!(out, " {word} {known} {acknowledged}")
+    write!(out, " {} {} {}", t.word, t.known, t.acknowledged)
 }
 
 fn flight<W: Write>(out: &mut W, s: State) -> io::Result<()> {
-    let count = s.group.count;
-    write!(out, "{count}")
+    write!(out, "{}", s.group.count)
 }
 
 fn verdict<W: Write>(out: &mut W, phase: u8, res: Triple) -> io::Result<()> {
     if phase == rank::DECIDED {
-        let word = res.word;
-        let code = res.code();
-        return write!(out, " {word} {code}");
+        return write!(out, " {} {}", res.word, res.code());
     }
     write!(out, " - -")
 }
 
 // As the schedule's listing has it: 1 if living, phase, the result's word, its code.
 fn line<W: Write>(out: &mut W, living: bool, r: Rank) -> io::Result<()> {
-    let life = living as u32;
-    let phase = r.phase;
-    write!(out, " {life} {phase}")?;
-    verdict(out, phase, r.result)
+    write!(out, " {} {}", living as u32, r.phase)?;
+    verdict(out, r.phase, r.result)
 }
 
 fn known<W: Write>(out: &mut W, r: Rank) -> io::Result<()> {
-    let marks = r.marks;
-    let acknowledged = r.acknowledged;
-    write!(out, " {marks} {acknowledged}")
+    write!(out, " {} {}", r.marks, r.acknowledged)
 }
 
 fn rank_at(ranks: [Rank; 64], k: u8) -> Rank {
@@ -66,30 +56,21 @@ fn rank<W: Write>(out: &mut W, s: State, k: u8, b: u8) -> io::Result<()> {
 }
 
 fn total<W: Write>(out: &mut W, t: Totals, b: u8) -> io::Result<()> {
-    let accepted = t.accepted;
-    let sent = t.sent;
-    let moved = t.moved;
     match b {
-        b'N' => write!(out, "{accepted}"),
-        b'S' => write!(out, "{sent}"),
-        b'M' => write!(out, "{moved}"),
+        b'N' => write!(out, "{}", t.accepted),
+        b'S' => write!(out, "{}", t.sent),
+        b'M' => write!(out, "{}", t.moved),
         _ => Ok(()),
     }
 }
 
-pub fn show<W: Write>(out: &mut W, t: Stepped, totals: Totals, n: u32, b: u8) -> io::Result<()> {
-    let s = t.state;
-    let moved = t.moved;
-    let ranks = moved.ranks;
+pub fn show<W: Write>(out: &mut W, t: Told, totals: Totals, n: u32, b: u8) -> io::Result<()> {
     match b {
-        b'A' => {
-            let answer = t.answer;
-            write!(out, " {answer}")
-        }
-        b'E' => answers(out, t.answer, t.sent, moved.count),
-        b'W' => write!(out, " {ranks}"),
-        b'F' => flight(out, s),
-        b'R' | b'K' | b'T' | b'V' => rank(out, s, small(n), b),
+        b'A' => write!(out, " {}", t.answer),
+        b'E' => answers(out, t.answer, t.sent, t.moved.count),
+        b'W' => write!(out, " {}", t.moved.ranks),
+        b'F' => flight(out, t.state),
+        b'R' | b'K' | b'T' | b'V' => rank(out, t.state, small(n), b),
         _ => total(out, totals, b),
     }
 }

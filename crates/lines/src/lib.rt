@@ -1,63 +1,57 @@
-// The lines of a listing: numbers are decimal without leading zeros, fields one space apart, and each line ends in one line feed. Each
-// function writes from a place of a lent buffer on and answers the place after its last byte.
+// The lines of a listing: numbers are decimal without leading zeros, fields one space apart, and each line ends in one line feed.
 #![tactic(auto)]
 
 ghost use Rattle.std.specs.Prelude.{◌≡◌, ◌++◌, ◌+◌, ◌*◌, ◌<◌, ◌≤◌, length};
 ghost use Rattle.rank.specs.Triples.{code};
-ghost use Rattle.text.specs.Text.{Wrote, feed, field};
+ghost use Rattle.text.specs.Text.{feed, field};
+ghost use Rattle.text.specs.Pages.{HasRoom, Puts};
 ghost use Rattle.lines.specs.Lines.{event_line, first_line, last_line, living, rank_line, refused_line, verdict_field};
 
 use rank::{Rank, Triple};
-use text::{put_byte, put_end, put_field, put_letters, put_number, put_three};
+use text::Page;
 
 // First line: version, n, events.
-pub fn put_first(text: &mut [u8], n: u8, events: u32) -> usize
-    requires { 37 ≤ length text.old }
-    ensures { Wrote text.old 0 (first_line n events) text.new result }
+pub fn put_first(page: &mut Page, n: u8, events: u32)
+    requires { HasRoom page.old 37 }
+    ensures { Puts page.old (first_line n events) page.new }
 {
-    let version = put_letters(text, 0, &[b'a', b'g', b'r']);
-    put_three(text, version, 1, n as u32, events)
+    page.put_letters(b"agr");
+    page.put_three(1, n as u32, events);
 }
 
 // Event line: place, answer, sent, moved.
-pub fn put_event(text: &mut [u8], at: usize, answers: &[u32], k: usize) -> usize
-    requires at_in_bounds { at + 44 ≤ length text.old }
+pub fn put_event(page: &mut Page, answers: &[u32], k: usize)
+    requires page_in_bounds { HasRoom page.old 44 }
     requires k_in_bounds { 3 * k + 3 ≤ length answers.now }
     requires k_bound { k < 4096 }
-    ensures { Wrote text.old at (event_line answers.now k) text.new result }
+    ensures { Puts page.old (event_line answers.now k) page.new }
 {
     let place = 3 * k;
-    let answer = put_number(text, at, k as u32);
-    put_three(
-        text,
-        answer,
-        answers[place],
-        answers[place + 1],
-        answers[place + 2],
-    )
+    page.put_number(k as u32);
+    page.put_three(answers[place], answers[place + 1], answers[place + 2]);
 }
 
 // A number of the verdict, with `-` unless decided.
-fn put_verdict(text: &mut [u8], at: usize, phase: u8, number: u32) -> usize
-    requires { at + 11 ≤ length text.old }
-    ensures { Wrote text.old at (verdict_field phase number) text.new result }
+fn put_verdict(page: &mut Page, phase: u8, number: u32)
+    requires { HasRoom page.old 11 }
+    ensures { Puts page.old (verdict_field phase number) page.new }
 {
-    if phase == 3 {
-        return put_field(text, at, number);
+    if phase == rank::DECIDED {
+        page.put_field(number);
+    } else {
+        page.put_letters(b" -");
     }
-    let dash = put_byte(text, at, b' ');
-    put_byte(text, dash, b'-')
 }
 
 // The end of a rank line: phase, result, code.
-fn put_phase(text: &mut [u8], at: usize, phase: u8, res: Triple) -> usize
-    requires { at + 34 ≤ length text.old }
-    ensures { Wrote text.old at (field phase ++ (verdict_field phase res.word ++ (verdict_field phase (code res) ++ feed))) text.new result }
+fn put_phase(page: &mut Page, phase: u8, res: Triple)
+    requires { HasRoom page.old 34 }
+    ensures { Puts page.old (field phase ++ (verdict_field phase res.word ++ (verdict_field phase (code res) ++ feed))) page.new }
 {
-    let word = put_field(text, at, phase as u32);
-    let code = put_verdict(text, word, phase, res.word);
-    let end = put_verdict(text, code, phase, res.code());
-    put_byte(text, end, b'\n')
+    page.put_field(phase as u32);
+    put_verdict(page, phase, res.word);
+    put_verdict(page, phase, res.code());
+    page.put_byte(b'\n');
 }
 
 // 1 if living.
@@ -69,32 +63,31 @@ fn living(dead: u64, i: u8) -> u32
 }
 
 // Rank line: rank, 1 if living, phase, result, code.
-pub fn put_rank(text: &mut [u8], at: usize, dead: u64, i: u8, r: Rank) -> usize
-    requires at_in_bounds { at + 57 ≤ length text.old }
+pub fn put_rank(page: &mut Page, dead: u64, i: u8, r: Rank)
+    requires page_in_bounds { HasRoom page.old 57 }
     requires i_bound { i < 64 }
-    ensures { Wrote text.old at (rank_line dead i r) text.new result }
+    ensures { Puts page.old (rank_line dead i r) page.new }
 {
-    let rank = put_byte(text, at, b'r');
-    let alive = put_field(text, rank, i as u32);
-    let phase = put_field(text, alive, living(dead, i));
-    let result = r.result;
-    put_phase(text, phase, r.phase, result)
+    page.put_byte(b'r');
+    page.put_field(i as u32);
+    page.put_field(living(dead, i));
+    put_phase(page, r.phase, r.result);
 }
 
 // Last line: messages in flight.
-pub fn put_last(text: &mut [u8], at: usize, count: u8) -> usize
-    requires { at + 13 ≤ length text.old }
-    ensures { Wrote text.old at (last_line count) text.new result }
+pub fn put_last(page: &mut Page, count: u8)
+    requires { HasRoom page.old 13 }
+    ensures { Puts page.old (last_line count) page.new }
 {
-    let flight = put_byte(text, at, b'm');
-    put_end(text, flight, count as u32)
+    page.put_byte(b'm');
+    page.put_end(count as u32);
 }
 
 // The only line of a refused run.
-pub fn put_refused(text: &mut [u8], number: u32) -> usize
-    requires { 19 ≤ length text.old }
-    ensures { Wrote text.old 0 (refused_line number) text.new result }
+pub fn put_refused(page: &mut Page, number: u32)
+    requires { HasRoom page.old 19 }
+    ensures { Puts page.old (refused_line number) page.new }
 {
-    let space = put_letters(text, 0, &[b'r', b'e', b'f', b'u', b's', b'e', b'd']);
-    put_end(text, space, number)
+    page.put_letters(b"refused");
+    page.put_end(number);
 }

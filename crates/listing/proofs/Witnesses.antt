@@ -15,7 +15,6 @@ use Rattle.rank.specs.Rules.{in_phase, saying, deciding, settled, done, settling
 use Rattle.rank.specs.Sends.{silent, reports, tells, asks, letter, letters}
 use Rattle.rank.specs.Triples.{fresh_triple, combine, closing, code}
 use Rattle.net.specs.Net.{joining, padded, without}
-use Rattle.events.specs.Events.{names_rank, names_place}
 use Rattle.refusals.specs.Refusing.{wrong_kind, wrong_rank, no_message, is_dead, not_outside, is_living, is_last, both_live, late_refusal, refusal}
 use Rattle.state.specs.Starting.{first_rank, first_row, fresh_state, empty_state, started}
 use Rattle.order.specs.Order.{proper, triple_within, is_zero, clauses, rank_in_order, is_within, member_in_order, zero_record, stranger_in_order, seat_in_order, seat_in_order_at, message_in_order, zero_place, place_in_order, place_in_order_at, in_order}
@@ -24,7 +23,7 @@ use Rattle.plans.specs.Plans.{subject, refusing, accepting, afterwards, fitting,
 use Rattle.group.specs.Events.{posted, applied, refused, carried, subject_of, plan_of, stepped, event}
 use Rattle.playing.specs.Playing.{Run, written, told, played}
 use Rattle.text.specs.Text.{digits_of, decimal, field, lines}
-use Rattle.files.specs.Files.{byte_at, short_at, number_at, event_at, events_in, wrong_mark, wrong_version, broken, header, number_of}
+use Rattle.files.specs.Files.{byte_at, short_at, number_at, event_at, events_in, wrong_mark, wrong_version, broken, header}
 use Rattle.files.specs.Cases.{file}
 use Rattle.schedule.specs.Runs.{refused_run, opened, run}
 use Rattle.schedule.specs.Steps.{stepping}
@@ -35,7 +34,7 @@ use Rattle.listing.specs.Listings.{rank_lines, listing, report_of, report}
 use Rattle.listing.specs.Witnesses.{three_listing, later, seen, goes, one, two, reporting, widowed, informed, extinct, crowded, four, five, moves_these, refuses, leaves, witnesses}
 
 pub nothing_is_vacuous : all witnesses ≡ true
-unfolding has only union meet minus add below set_of count largest smallest listed every all mended and_then moved_below mended_below wrong_size misshapen same lineage ancestors half flat parent children row entry fresh moves sized moved proper triple_within is_zero clauses rank_in_order becoming combining concluding owing admitting proposal parent_of children_of awaiting fresh_rank hearing viewing in_phase saying deciding settled done settling entering noting raised taking_up lowered taking_down asked taking_ask renewing regathering orphaned inheriting bereaved noticing acknowledging silent reports tells asks letter letters fresh_triple combine closing code subject refusing accepting afterwards fitting delivered acting planned posted joining applied refused carried subject_of plan_of stepped padded without is_within member_in_order zero_record stranger_in_order seat_in_order seat_in_order_at message_in_order zero_place place_in_order place_in_order_at in_order event names_rank names_place wrong_kind wrong_rank no_message is_dead not_outside is_living is_last both_live late_refusal refusal first_rank first_row fresh_state empty_state started byte_at short_at number_at event_at events_in wrong_mark wrong_version broken header number_of digits_of decimal field first_line event_line living verdict_field rank_line last_line lines rank_lines listing refused_line report_of report written told played stepping refused_run opened run then file three three_listing later seen goes one two reporting widowed informed extinct crowded four five moves_these tallies refuses leaves witnesses
+unfolding has only union meet minus add below set_of count largest smallest listed every all mended and_then moved_below mended_below wrong_size misshapen same lineage ancestors half flat parent children row entry fresh moves sized moved proper triple_within is_zero clauses rank_in_order becoming combining concluding owing admitting proposal parent_of children_of awaiting fresh_rank hearing viewing in_phase saying deciding settled done settling entering noting raised taking_up lowered taking_down asked taking_ask renewing regathering orphaned inheriting bereaved noticing acknowledging silent reports tells asks letter letters fresh_triple combine closing code subject refusing accepting afterwards fitting delivered acting planned posted joining applied carried subject_of plan_of stepped padded without is_within member_in_order zero_record stranger_in_order seat_in_order seat_in_order_at message_in_order zero_place place_in_order place_in_order_at in_order event wrong_kind wrong_rank no_message is_dead not_outside is_living is_last both_live late_refusal refusal first_rank first_row fresh_state empty_state started byte_at short_at number_at event_at events_in wrong_mark wrong_version broken header digits_of decimal field first_line event_line living verdict_field rank_line last_line lines rank_lines listing refused_line report_of report written told played stepping refused_run opened run then file three three_listing later seen goes one two reporting widowed informed extinct crowded four five moves_these tallies refuses leaves witnesses
 nothing_is_vacuous = refl
 
 -- The states that are computed by steps are those after the example's first events.

@@ -24,11 +24,11 @@ report_of file r = cond (eqb r.answer 0) (listing (events_in file) r.answers r.s
 unfoldable pub report : List ℕ → List ℕ → List ℕ
 report file out = report_of file (run file out)
 
--- What the caller of a report lends. To read the file: one byte more than the longest has, so that a longer one is seen.
+-- What a program reads of a file: one byte more than the longest has, so that a longer one is seen.
 abbrev pub file_room : ℕ
 file_room = longest + 1
 
--- To run it: three numbers for each event.
+-- What the caller of a report lends. To run the file: three numbers for each event.
 abbrev pub answers_room : ℕ
 answers_room = 3 * most_events
 

@@ -13,8 +13,7 @@ use Rattle.events.specs.Events.{event_of}
 use Rattle.state.specs.declared.State.{State}
 use Rattle.state.specs.States.{joined, rank_at}
 use Rattle.state.specs.Starting.{fresh_state, started}
-use Rattle.group.specs.declared.Stepped.{Stepped}
-use Rattle.group.specs.Events.{stepped, event}
+use Rattle.group.specs.Events.{Stepped, stepped, event}
 use Rattle.playing.specs.Playing.{Run}
 use Rattle.files.specs.Files.{event_at}
 use Rattle.files.specs.Cases.{file}

@@ -1,19 +1,13 @@
-// The messages in flight: 128 places, zero after the last message. While events are played each message is three numbers, so that a list is
-// changed where it stands.
+// The messages in flight: 128 places, zero after the last message.
 #![tactic(auto)]
 
-ghost use Rattle.std.specs.Prelude.{◌≡◌, cond, true, ◌++◌, ◌+◌, ◌-◌, ◌^◌, ◌<◌, ◌≤◌, get_or, length, set, take};
+ghost use Rattle.std.specs.Prelude.{◌≡◌, List, cond, true, ◌++◌, ◌∷◌, [], ◌+◌, ◌-◌, ◌<◌, ◌≤◌, get_or, length, set, take};
+ghost use Rattle.rank.specs.declared.Message.{Message};
 ghost use Rattle.rank.specs.Sends.{letters, size};
-ghost use Rattle.net.specs.Net.{joining, message_of, messages_of, padded, placed, Small, without, zero_message};
+ghost use Rattle.net.specs.Net.{joining, message_of, messages_of, padded, placed, without, zero_message};
 
 use rank::{Message, Send, Triple};
-
-// How many messages are in flight once some have left and joined, and how many have joined.
-#[derive(Clone, Copy)]
-pub struct Forwarded {
-    pub count: u8,
-    pub sent: u32,
-}
+use std::marker::Model;
 
 // No message.
 pub fn nothing() -> Message
@@ -27,15 +21,28 @@ pub fn nothing() -> Message
     }
 }
 
-// The first of a message's three numbers, and the message of three.
-fn number_of(m: Message) -> u64
-    ensures acknowledged_value { message_of result m.triple.known m.triple.acknowledged ≡ m }
-    ensures upper_bound { result < 2 ^ 56 }
+// The message at a place of a record's list, zero past the last.
+pub fn at(net: [Message; 128], place: u32) -> Message
+    ensures { result ≡ get_or net place zero_message }
 {
-    let triple = m.triple;
-    m.kind as u64 + 256 * (m.from as u64) + 65536 * (m.to as u64) + 16777216 * (triple.word as u64)
+    if place < 128 {
+        net[place as usize]
+    } else {
+        nothing()
+    }
 }
 
+// The first of a message's three numbers, and the message of three.
+fn number_of(m: Message) -> u64
+    ensures { message_of result m.triple.known m.triple.acknowledged ≡ m }
+{
+    m.kind as u64
+        + 256 * (m.from as u64)
+        + 65536 * (m.to as u64)
+        + 16777216 * (m.triple.word as u64)
+}
+
+#[tactic(auto, unfolding(crate::specs::Net::message_of))]
 fn message_of(x: u64, known: u64, acknowledged: u64) -> Message
     ensures { result ≡ message_of x known acknowledged }
 {
@@ -52,174 +59,147 @@ fn message_of(x: u64, known: u64, acknowledged: u64) -> Message
 }
 
 // A message is put at a place; and the message of the next place is.
-fn put(net: &mut [u64; 384], place: u8, m: Message)
-    requires place_bound { place < 128 }
-    requires small { Small net.old }
-    ensures small_2 { Small net.new }
-    ensures net_after { messages_of net.new ≡ set (messages_of net.old) place m }
+fn put(numbers: &mut [u64; 384], place: u8, m: Message)
+    requires { place < 128 }
+    ensures { messages_of numbers.new ≡ set (messages_of numbers.old) place m }
 {
-    let triple = m.triple;
     let i = place as usize;
-    net[i] = number_of(m);
-    net[128 + i] = triple.known;
-    net[256 + i] = triple.acknowledged;
+    numbers[i] = number_of(m);
+    numbers[128 + i] = m.triple.known;
+    numbers[256 + i] = m.triple.acknowledged;
 }
 
-fn pull(net: &mut [u64; 384], place: u8)
-    requires place_bound { place + 1 < 128 }
-    requires small { Small net.old }
-    ensures small_2 { Small net.new }
-    ensures net_after { messages_of net.new ≡ set (messages_of net.old) place (get_or (messages_of net.old) (place + 1) zero_message) }
+fn pull(numbers: &mut [u64; 384], place: u8)
+    requires { place + 1 < 128 }
+    ensures { messages_of numbers.new ≡ set (messages_of numbers.old) place (get_or (messages_of numbers.old) (place + 1) zero_message) }
 {
     let i = place as usize;
     let next = i + 1;
-    let number = net[next];
-    let known = net[128 + next];
-    let acknowledged = net[256 + next];
-    net[i] = number;
-    net[128 + i] = known;
-    net[256 + i] = acknowledged;
+    numbers[i] = numbers[next];
+    numbers[128 + i] = numbers[128 + next];
+    numbers[256 + i] = numbers[256 + next];
 }
 
-// A list as numbers, and the list of such numbers.
-pub fn numbers(net: [Message; 128], count: u8) -> [u64; 384]
-    requires net_value { net ≡ padded (take count net) }
-    requires count_bound { count ≤ 128 }
-    ensures result_value { messages_of result ≡ net }
-    ensures small { Small result }
-{
-    let mut found = [0u64; 384];
-    let mut i: u8 = 0;
-    while i < count {
-        put(&mut found, i, net[i as usize]);
-        i += 1;
-    }
-    found
-}
-
-pub fn messages(net: [u64; 384], count: u8) -> [Message; 128]
-    requires net_value { messages_of net ≡ padded (take count (messages_of net)) }
-    requires count_bound { count ≤ 128 }
-    ensures { result ≡ messages_of net }
-{
-    let mut found = [nothing(); 128];
-    let mut k: u8 = 0;
-    while k < count {
-        let i = k as usize;
-        let m = message_of(net[i], net[128 + i], net[256 + i]);
-        found[i] = m;
-        k += 1;
-    }
-    found
-}
-
-// The message at a place, zero past the last: of a record's list, and of a list as numbers.
-pub fn at(net: [Message; 128], place: u32) -> Message
-    ensures { result ≡ get_or net place zero_message }
-{
-    if place < 128 {
-        return net[place as usize];
-    }
-    nothing()
-}
-
-pub fn message_at(net: &[u64; 384], place: u32) -> Message
-    requires { length net.now ≡ 384 }
-    ensures { result ≡ get_or (messages_of net.now) place zero_message }
-{
-    if place < 128 {
-        let i = place as usize;
-        return message_of(net[i], net[128 + i], net[256 + i]);
-    }
-    nothing()
-}
-
-// The message at a place leaves, and later ones move up.
-fn take_out(net: &mut [u64; 384], count: u8, place: u8)
-    requires net_value { messages_of net.old ≡ padded (take count (messages_of net.old)) }
-    requires place_lt_count { place < count }
-    requires count_bound { count ≤ 128 }
-    requires small { Small net.old }
-    ensures small_2 { Small net.new }
-    ensures net_after { messages_of net.new ≡ padded (without place (take count (messages_of net.old))) }
-{
-    let mut i: u8 = place;
-    while i + 1 < count {
-        pull(net, i);
-        i += 1;
-    }
-    put(net, i, nothing());
-}
-
-// The messages of a send join at the end, in ascending order of receiver. Answers how many are in flight then.
-fn post(net: &mut [u64; 384], start: u8, me: u8, s: Send) -> u8
-    requires net_value { messages_of net.old ≡ padded (take start (messages_of net.old)) }
-    requires s_bound { start + size s ≤ 128 }
-    requires small { Small net.old }
-    ensures small_2 { Small net.new }
-    ensures value { result ≡ (joining (take start (messages_of net.old)) me s).count }
-    ensures net_after { messages_of net.new ≡ (joining (take start (messages_of net.old)) me s).net }
-{
-    let mut count = start;
-    let mut left = s.to;
-    while left != 0 {
-        let q = sets::smallest(left);
-        let triple = s.triple;
-        let m = Message {
-            kind: s.kind,
-            from: me,
-            to: q,
-            triple,
-        };
-        put(net, count, m);
-        count += 1;
-        left = sets::minus(left, sets::only(q));
-    }
-    count
-}
-
-// The message at a place leaves, if one leaves. Answers how many are left.
-fn let_go(net: &mut [u64; 384], count: u8, place: u32, leaves: bool) -> u8
-    requires net_value { messages_of net.old ≡ padded (take count (messages_of net.old)) }
-    requires count_bound { count ≤ 128 }
-    requires place_lt_count { leaves ≡ true → place < count }
-    requires small { Small net.old }
-    ensures small_2 { Small net.new }
-    ensures value { result ≡ count - cond leaves 1 0 }
-    ensures net_after { messages_of net.new ≡ padded (cond leaves (without place (take count (messages_of net.old))) (take count (messages_of net.old))) }
-{
-    if leaves {
-        take_out(net, count, place as u8);
-        return count - 1;
-    }
-    count
-}
-
-// A message leaves, if one leaves, and two sends join.
-pub fn forward(
-    net: &mut [u64; 384],
+// The list while events are played, changed where it stands. Each message is three numbers, in three runs of one array, as messages_of has
+// them; what stands past the count is no message.
+#[derive(Drop)]
+pub struct Flight {
+    numbers: [u64; 384],
     count: u8,
-    place: u32,
-    me: u8,
-    leaves: bool,
-    first: Send,
-    second: Send,
-) -> Forwarded
-    requires net_value { messages_of net.old ≡ padded (take count (messages_of net.old)) }
-    requires count_bound { count ≤ 128 }
-    requires place_lt_count { leaves ≡ true → place < count }
-    requires leaves_bound { count + size first + size second - cond leaves 1 0 ≤ 128 }
-    requires small { Small net.old }
-    ensures small_2 { Small net.new }
-    ensures sent_value { result.sent ≡ size first + size second }
-    ensures count_value { result.count ≡ (placed ((cond leaves (without place (take count (messages_of net.old))) (take count (messages_of net.old)) ++ letters me first) ++ letters me second)).count }
-    ensures net_after { messages_of net.new ≡ (placed ((cond leaves (without place (take count (messages_of net.old))) (take count (messages_of net.old)) ++ letters me first) ++ letters me second)).net }
-{
-    let left = let_go(net, count, place, leaves);
-    let one = post(net, left, me, first);
-    let two = post(net, one, me, second);
-    Forwarded {
-        count: two,
-        sent: (two - left) as u32,
+}
+
+impl Model for Flight {
+    ghost Value = { List Message };
+
+    ghost view = { λ f. take f.count (messages_of f.numbers) };
+
+    ghost invariant = { λ f. f.count ≤ 128 };
+}
+
+impl Flight {
+    // Of a record's list and its length, and back.
+    pub fn of(net: [Message; 128], count: u8) -> Flight
+        requires { count ≤ 128 }
+        ensures { result ≡ take count net }
+    {
+        let mut numbers = [0u64; 384];
+        for i in 0..count {
+            put(&mut numbers, i, net[i as usize]);
+        }
+        Flight { numbers, count }
+    }
+
+    pub fn places(&self) -> [Message; 128]
+        ensures { result ≡ padded self.now }
+    {
+        let mut found = [nothing(); 128];
+        for i in 0..self.count {
+            found[i as usize] = self.at(i as u32);
+        }
+        found
+    }
+
+    pub fn count(&self) -> u8
+        ensures { result ≡ length self.now }
+    {
+        self.count
+    }
+
+    // The message at a place, zero past the last.
+    pub fn at(&self, place: u32) -> Message
+        ensures { result ≡ get_or self.now place zero_message }
+    {
+        if place < self.count as u32 {
+            let i = place as usize;
+            message_of(
+                self.numbers[i],
+                self.numbers[128 + i],
+                self.numbers[256 + i],
+            )
+        } else {
+            nothing()
+        }
+    }
+
+    // The message at a place leaves, and later ones move up.
+    fn take_out(&mut self, place: u32)
+        requires { place < length self.old }
+        ensures { self.new ≡ without place self.old }
+    {
+        let last = self.count - 1;
+        for i in place as u8..last {
+            pull(&mut self.numbers, i);
+        }
+        self.count = last;
+    }
+
+    // The message at a place leaves, if one leaves.
+    fn let_go(&mut self, place: u32, leaves: bool)
+        requires { leaves ≡ true → place < length self.old }
+        ensures { self.new ≡ cond leaves (without place self.old) self.old }
+    {
+        if leaves {
+            self.take_out(place);
+        }
+    }
+
+    // A message joins at the end.
+    fn join(&mut self, m: Message)
+        requires { length self.old < 128 }
+        ensures { self.new ≡ self.old ++ m ∷ [] }
+    {
+        put(&mut self.numbers, self.count, m);
+        self.count += 1;
+    }
+
+    // The messages of a send join at the end, in ascending order of receiver.
+    fn post(&mut self, me: u8, s: Send)
+        requires { length self.old + size s ≤ 128 }
+        ensures { placed self.new ≡ joining self.old me s }
+    {
+        let mut left = s.to;
+        while let Some(q) = sets::smallest(left) {
+            self.join(Message {
+                kind: s.kind,
+                from: me,
+                to: q,
+                triple: s.triple,
+            });
+            left = sets::minus(left, sets::only(q));
+        }
+    }
+
+    // A message leaves, if one leaves, and two sends join. Answers how many have joined.
+    pub fn forward(&mut self, place: u32, me: u8, leaves: bool, first: Send, second: Send) -> u32
+        requires place_in { leaves ≡ true → place < length self.old }
+        requires room { length self.old + size first + size second - cond leaves 1 0 ≤ 128 }
+        ensures sent { result ≡ size first + size second }
+        ensures after { self.new ≡ (cond leaves (without place self.old) self.old ++ letters me first) ++ letters me second }
+    {
+        self.let_go(place, leaves);
+        let left = self.count();
+        self.post(me, first);
+        self.post(me, second);
+        (self.count() - left) as u32
     }
 }

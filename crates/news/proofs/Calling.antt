@@ -10,8 +10,7 @@ use Rattle.sets.proofs.Laws.Bools.{eq_or_ne}
 use Rattle.sets.proofs.Laws.Members.{add_swap, add_twice}
 use Rattle.tree.specs.Forms.{nested_form, tree_of}
 use Rattle.tree.specs.Calls.{wrong_size}
-use Rattle.calls.specs.Calls.{marked}
-use Rattle.calls.specs.declared.Marked.{Marked}
+use Rattle.calls.specs.Calls.{Marked, marked}
 use Rattle.tree.proofs.Laws.Calls.{size_pos, size-le, size_right}
 use Rattle.calls.proofs.Laws.Marks.{Markable, markable_accepted, accepted_markable, refused_keeps}
 use Rattle.news.specs.News.{Held, Same, Shows, HeldInOrder, InAnyOrder, calls, in_marked}

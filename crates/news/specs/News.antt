@@ -3,13 +3,12 @@
 use Rattle.std.specs.Prelude.{ℕ, ◌≤◌, ◌<◌, ◌≡◌, Bool, true, false, cond, not, ◌&&◌, ◌||◌, eqb}
 use mathlib.Core.List.{List, [], ◌∷◌, ◌++◌, foldl}
 use Rattle.sets.specs.Sets.{has, union, below, listed}
-use Rattle.tree.specs.Refusals.{accepted}
+use Rattle.answers.specs.Refusals.{accepted}
 use Rattle.tree.specs.Tree.{fresh}
 use Rattle.tree.specs.Forms.{nested_form, tree_of}
 use Rattle.tree.specs.Calls.{mended, wrong_size}
-use Rattle.calls.specs.Calls.{marked}
+use Rattle.calls.specs.Calls.{Marked, marked}
 use Rattle.tree.specs.declared.Mended.{Mended}
-use Rattle.calls.specs.declared.Marked.{Marked}
 use Rattle.rank.specs.declared.Acted.{Acted}
 use Rattle.rank.specs.Words.{ask}
 use Rattle.rank.specs.Rules.{taking_ask, noticing}

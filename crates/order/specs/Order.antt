@@ -2,7 +2,7 @@
 use Rattle.std.specs.Prelude.{ℕ, Bool, cond, not, ◌&&◌, ◌||◌, List, [], ◌∷◌, eqb, ltb, leb, replicate}
 use Rattle.sets.specs.Sets.{none, has, minus, below, every, all}
 use Rattle.tree.specs.Tree.{fresh}
-use Rattle.tree.specs.Refusals.{accepted}
+use Rattle.answers.specs.Refusals.{accepted}
 use Rattle.tree.specs.Calls.{same}
 use Rattle.calls.specs.Calls.{misshapen}
 use Rattle.rank.specs.declared.Rank.{Rank}

@@ -1,34 +1,33 @@
-// Reads calls of write and read, and prints what each answers (script.rt, answer.rt).
+// Reads calls of write and read, and prints what each answers (answer.rt).
 // The model of tests/model made the files stdin and stdout beside src/: random views and buffers, pictures, and damaged texts.
 #![tactic(auto)]
 
 mod answer;
-mod script;
 
-use script::Reader;
+use answer::Script;
 use std::io;
 use std::io::Write;
 
-// The reader after the byte before place k.
-fn step<W: Write>(out: &mut W, text: &[u8], r: Reader, b: u8, k: usize) -> io::Result<Reader> {
-    let left = r.left;
-    if left == 1 {
-        answer::read(out, text, r.from, k)?;
-        return Ok(script::begin());
+// What is being read after the byte before place k.
+fn step<W: Write>(out: &mut W, text: &[u8], s: Script, b: u8, k: usize) -> io::Result<Script> {
+    match s {
+        Script::Bytes(from, 1) => {
+            answer::read(out, text, from, k)?;
+            Ok(answer::begin())
+        }
+        Script::Bytes(from, left) => Ok(Script::Bytes(from, left.wrapping_sub(1))),
+        Script::Line(line) if b == b'\n' => answer::answer(out, text, line, k),
+        Script::Line(mut line) => {
+            line.take(b);
+            Ok(Script::Line(line))
+        }
     }
-    if left != 0 {
-        return Ok(script::pass(r));
-    }
-    if b == b'\n' {
-        return answer::answer(out, text, r, k);
-    }
-    Ok(script::take(r, b))
 }
 
 fn play<W: Write>(out: &mut W, text: &[u8]) -> io::Result<()> {
-    let mut r = script::begin();
+    let mut s = answer::begin();
     for (k, b) in text.iter().enumerate() {
-        r = step(out, text, r, *b, k + 1)?;
+        s = step(out, text, s, *b, k + 1)?;
     }
     Ok(())
 }

@@ -6,10 +6,8 @@ use Prim.Native.Nat.{ℕ, ◌≤◌}
 use contract.Lifetimes.{Lfts}
 use lib.ListN.{length, take}
 use Rattle.pictures.specs.Pictures.{picture}
-use Rattle.pictures.specs.Writing.{Outcome, writing}
-use Rattle.pictures.specs.Reading.{IsView, Reads, a_picture}
-use Rattle.pictures.specs.declared.Written.{Written}
-use Rattle.pictures.specs.declared.Viewed.{Viewed}
+use Rattle.pictures.specs.Writing.{written, Outcome, writing}
+use Rattle.pictures.specs.Reading.{IsView, Viewed, viewed, Reads, a_picture}
 use Rattle.pictures.proofs.Laws.Calls.{accepted-writing, written-view, writing-cases, same_view_lem, reads_alike}
 use Rattle.pictures.proofs.write.Reads as write
 use Rattle.pictures.proofs.read.Reads as read
@@ -29,9 +27,9 @@ read_back : (n marks : ℕ) (text : List ℕ) (r : Viewed) → (writing n marks 
 read_back n marks text r z h = let w = accepted-writing n marks text z in a_picture_is_read n marks r w.0 (subst (λ (l : List ℕ). Reads l r) w.1 h)
 
 -- Whoever writes and is answered 0, and then reads what was written, gets the size and the marks.
-pub reading_what_was_written : (κs : Lfts 1) (a : _) (t : Written) (x : _) → write.Post κs a t x → t.answer ≡ 0
-    → (λs : Lfts 1) (b : _) (u : Viewed) (y : _) → read.Post λs b u y → b.0.now ≡ take t.length x.1.1.0.now → u ≡ record { answer = 0; n = a.0; marks = a.1.0 }
+pub reading_what_was_written : (κs : Lfts 1) (a : _) (t : _) (x : _) → write.Post κs a t x → (written t).answer ≡ 0
+    → (λs : Lfts 1) (b : _) (u : _) (y : _) → read.Post λs b u y → b.0.now ≡ take (written t).length x.1.1.0.now → viewed u ≡ record { answer = 0; n = a.0; marks = a.1.0 }
 reading_what_was_written κs a t x e z λs b u y h s =
     let text = a.1.1.0.now in
     let left : b.0.now ≡ take (writing a.0 a.1.0 text).length (writing a.0 a.1.0 text).text = s ∙ ap (λ (w : Outcome). take w.length w.text) e in
-    read_back a.0 a.1.0 text u (sym (ap (λ (w : Outcome). w.answer) e) ∙ z) (subst (λ (l : List ℕ). Reads l u) left h)
+    read_back a.0 a.1.0 text (viewed u) (sym (ap (λ (w : Outcome). w.answer) e) ∙ z) (subst (λ (l : List ℕ). Reads l (viewed u)) left h)

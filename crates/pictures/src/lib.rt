@@ -1,59 +1,67 @@
 // A view as a DOT digraph, written and read back. Entry points for callers are write and read; they refuse bad input and require nothing.
 #![tactic(auto)]
 
-ghost use Rattle.std.specs.Prelude.{◌≡◌, cond, true, ◌+◌, ◌*◌, ◌≤◌, length};
+ghost use Rattle.std.specs.Prelude.{◌≡◌, true, ◌+◌, ◌*◌, ◌≤◌, length};
 ghost use Rattle.text.specs.Text.{Wrote, lines};
+ghost use Rattle.text.specs.Pages.{HasRoom, Puts};
 ghost use Rattle.dot.specs.Dot.{edge_line, node_line};
 ghost use Rattle.pictures.specs.Pictures.{picture, picture_room};
-ghost use Rattle.pictures.specs.Writing.{room_for, reply, writing, wrong_marks};
-ghost use Rattle.pictures.specs.Reading.{Reads};
+ghost use Rattle.pictures.specs.Writing.{reply, room_for, wrong_marks, writing, written};
+ghost use Rattle.pictures.specs.Reading.{Reads, viewed};
 
-use dot::{put_line, put_opening};
-use text::put_letters;
+use answers::Refusal;
+use dot::{put_edge_line, put_node_line, put_opening};
+use text::Page;
 
 // What put_picture asks for.
 const ROOM: usize = 3352;
 
-// The answer of write: a refusal number, or 0 with the length of the text.
-#[derive(Clone, Copy)]
-pub struct Written {
-    pub answer: u32,
-    pub length: usize,
-}
-
-// The answer of read: 31, or 0 with the view.
-#[derive(Clone, Copy)]
-pub struct Viewed {
-    pub answer: u32,
+// The size of a group, and the marks of a view of it.
+#[derive(Clone, Copy, Debug, PartialEq, Eq, Hash)]
+pub struct View {
     pub n: u32,
     pub marks: u64,
 }
 
-// The node lines or the edge lines, ascending.
-fn put_lines(text: &mut [u8], at: usize, n: u8, marks: u64, edges: bool) -> usize
-    requires n_in_bounds { at + 26 * n ≤ length text.old }
+// The node lines, ascending.
+fn put_nodes(page: &mut Page, n: u8, marks: u64)
+    requires page_in_bounds { HasRoom page.old (24 * n) }
     requires n_bound { n ≤ 64 }
-    ensures { Wrote text.old at (lines (λ p. cond edges (edge_line marks p) (node_line marks p)) n) text.new result }
+    ensures { Puts page.old (lines (node_line marks) n) page.new }
 {
-    let mut next = at;
-    let mut p: u8 = 0;
-    while p < n {
-        next = put_line(text, next, marks, p, edges);
-        p += 1;
-    }
-    next
+    page.put_lines(n as usize, |page, p| put_node_line(page, marks, p as u8));
 }
 
-// A view's picture from a place on, in a buffer with room for ten digits to a number.
-pub fn put_picture(text: &mut [u8], at: usize, n: u8, marks: u64) -> usize
-    requires picture_room_in_bounds { at + picture_room ≤ length text.old }
+// The edge lines, ascending.
+fn put_edges(page: &mut Page, n: u8, marks: u64)
+    requires page_in_bounds { HasRoom page.old (26 * n) }
     requires n_bound { n ≤ 64 }
-    ensures { Wrote text.old at (picture n marks) text.new result }
+    ensures { Puts page.old (lines (edge_line marks) n) page.new }
 {
-    let nodes = put_opening(text, at, n);
-    let edges = put_lines(text, nodes, n, marks, false);
-    let end = put_lines(text, edges, n, marks, true);
-    put_letters(text, end, b"}\n")
+    page.put_lines(n as usize, |page, p| put_edge_line(page, marks, p as u8));
+}
+
+// A view's picture, on a page with room for ten digits to a number.
+pub fn put_picture(page: &mut Page, n: u8, marks: u64)
+    requires page_in_bounds { HasRoom page.old picture_room }
+    requires n_bound { n ≤ 64 }
+    ensures { Puts page.old (picture n marks) page.new }
+{
+    put_opening(page, n);
+    put_nodes(page, n, marks);
+    put_edges(page, n, marks);
+    page.put_letters(b"}\n");
+}
+
+// A view's picture at the start of a buffer; answers its length.
+fn draw(drawn: &mut [u8], n: u8, marks: u64) -> usize
+    requires picture_room_in_bounds { picture_room ≤ length drawn.old }
+    requires n_bound { n ≤ 64 }
+    ensures { Wrote drawn.old 0 (picture n marks) drawn.new result }
+{
+    let mut page = Page { text: drawn, at: 0 };
+    put_picture(&mut page, n, marks);
+    page.at
 }
 
 // Whether marks lie outside the group or leave no rank.
@@ -65,49 +73,32 @@ fn wrong_marks(n: u8, marks: u64) -> bool
     (sets::minus(marks, group) != 0) | (sets::minus(group, marks) == 0)
 }
 
-// A refused write has written nothing.
-fn refuse(answer: u32) -> Written
-    ensures { result ≡ record { answer = answer; length = 0 } }
-{
-    Written { answer, length: 0 }
-}
-
 // Writes the picture of a view, where the buffer has room for it.
-fn fit(n: u8, marks: u64, text: &mut [u8]) -> Written
+fn fit(n: u8, marks: u64, text: &mut [u8]) -> Result<usize, Refusal>
     requires { n ≤ 64 }
-    ensures { reply result text.new ≡ room_for (picture n marks) text.old }
+    ensures { reply (written result) text.new ≡ room_for (picture n marks) text.old }
 {
     let mut drawn = [0u8; ROOM];
-    let length = put_picture(&mut drawn, 0, n, marks);
+    let length = draw(&mut drawn, n, marks);
     if text.len() < length {
-        return refuse(30);
+        return Err(Refusal::NoRoom);
     }
-    put_letters(text, 0, &drawn[..length]);
-    Written { answer: 0, length }
+    text[..length].copy_from_slice(&drawn[..length]);
+    Ok(length)
 }
 
-// Entry point: writes the picture of a view from the buffer's start on and answers its length. Refuses with 1, 2 or 30.
-pub fn write(n: u32, marks: u64, text: &mut [u8]) -> Written
-    ensures { reply result text.new ≡ writing n marks text.old }
+// Entry point: writes the picture of a view from the buffer's start on and answers its length. Refuses a bad size, marks outside the group or
+// that leave no rank, and a buffer that is too short; it has written nothing then.
+pub fn write(n: u32, marks: u64, text: &mut [u8]) -> Result<usize, Refusal>
+    ensures { reply (written result) text.new ≡ writing n marks text.old }
 {
     if tree::wrong_size(n) {
-        return refuse(1);
+        return Err(Refusal::BadSize);
     }
     if wrong_marks(n as u8, marks) {
-        return refuse(2);
+        return Err(Refusal::NotInOrder);
     }
     fit(n as u8, marks, text)
-}
-
-// A text that is no picture.
-fn unread() -> Viewed
-    ensures { result ≡ record { answer = 31; n = 0; marks = 0 } }
-{
-    Viewed {
-        answer: 31,
-        n: 0,
-        marks: 0,
-    }
 }
 
 // Whether a text is the picture of a view.
@@ -116,32 +107,27 @@ fn is_picture(text: &[u8], n: u8, marks: u64) -> bool
     ensures { (result ≡ true → text.now ≡ picture n marks) × (text.now ≡ picture n marks → result ≡ true) }
 {
     let mut drawn = [0u8; ROOM];
-    let length = put_picture(&mut drawn, 0, n, marks);
-    if text.len() != length {
-        return false;
-    }
-    check::same(&text[..length], &drawn[..length])
+    let length = draw(&mut drawn, n, marks);
+    text == &drawn[..length]
 }
 
-// Entry point: the view whose picture a text is, byte for byte. It proposes a view, and accepts where that view's picture is the text.
-// Refuses with 31.
-pub fn read(text: &[u8]) -> Viewed
-    ensures { Reads text.now result }
+// Entry point: the view whose picture a text is, byte for byte. It proposes a view, and accepts where that view's picture is the text; any
+// other text is no picture.
+pub fn read(text: &[u8]) -> Result<View, Refusal>
+    ensures { Reads text.now (viewed result) }
 {
-    let n = proposing::size_in(text);
+    let Some(n) = proposing::size_in(text) else {
+        return Err(Refusal::NoPicture);
+    };
     if tree::wrong_size(n as u32) {
-        return unread();
+        return Err(Refusal::NoPicture);
     }
     let marks = proposing::marks_in(text, n);
     if wrong_marks(n, marks) {
-        return unread();
+        return Err(Refusal::NoPicture);
     }
     if !is_picture(text, n, marks) {
-        return unread();
+        return Err(Refusal::NoPicture);
     }
-    Viewed {
-        answer: 0,
-        n: n as u32,
-        marks,
-    }
+    Ok(View { n: n as u32, marks })
 }

@@ -1,7 +1,9 @@
 -- The plan of an event: what it has one rank do, whether its message leaves and its rank dies, or why it is refused. Over any ancestor sets.
-use Rattle.std.specs.Prelude.{ℕ, ◌+◌, ◌-◌, false, cond, ◌||◌, List, eqb, ltb}
+use Rattle.std.specs.Prelude.{ℕ, ◌+◌, ◌-◌, Bool, false, cond, ◌||◌, List, eqb, ltb, Result, Ok, Err}
 use Rattle.sets.specs.Sets.{has}
-use Rattle.tree.specs.Refusals.{accepted, too_many}
+use Rattle.answers.specs.declared.Refusal.{Refusal}
+use Rattle.answers.specs.Answers.{number}
+use Rattle.answers.specs.Refusals.{accepted, too_many}
 use Rattle.tree.specs.Tree.{nobody}
 use Rattle.rank.specs.declared.Rank.{Rank}
 use Rattle.rank.specs.declared.Message.{Message}
@@ -23,11 +25,18 @@ idle r row = record { rank = r; row = row; first = silent; second = silent; move
 unfoldable pub subject : ℕ → Event → Message → ℕ
 subject n ev m = cond (names_place ev.kind) m.to (cond (ltb ev.a n) ev.a 0)
 
+-- What is planned: the answer, whether the message leaves, whether the rank dies, and what the rank does.
+pub record Planned : Type 0 where
+  pub answer : ℕ
+  pub leaves : Bool
+  pub dies : Bool
+  pub acted : Acted
+
 -- A refusal plans nothing.
-unfoldable pub refusing : ℕ → Rank → List ℕ → Plan
+unfoldable pub refusing : ℕ → Rank → List ℕ → Planned
 refusing number r row = record { answer = number; leaves = false; dies = false; acted = idle r row }
 
-unfoldable pub accepting : Event → Acted → Plan
+unfoldable pub accepting : Event → Acted → Planned
 accepting ev a = record { answer = accepted; leaves = names_place ev.kind; dies = eqb ev.kind crashes; acted = a }
 
 -- How many are in flight once the message has left and the sends have joined.
@@ -35,7 +44,7 @@ unfoldable pub afterwards : ℕ → Event → Acted → ℕ
 afterwards count ev a = count + size a.first + size a.second - cond (names_place ev.kind) 1 0
 
 -- 11: over 128 messages would be in flight afterwards.
-unfoldable pub fitting : ℕ → Event → Rank → List ℕ → Acted → Plan
+unfoldable pub fitting : ℕ → Event → Rank → List ℕ → Acted → Planned
 fitting count ev r row a = cond (ltb in_flight (afterwards count ev a)) (refusing too_many r row) (accepting ev a)
 
 module _ (anc : ℕ → ℕ) (n dead : ℕ) where
@@ -56,8 +65,16 @@ module _ (anc : ℕ → ℕ) (n dead : ℕ) where
       (cond (eqb ev.kind acknowledges) (acknowledging anc n me r)
       (idle r row))))
 
-  unfoldable pub planned : ℕ → Event → Message → ℕ → Rank → List ℕ → Plan
+  unfoldable pub planned : ℕ → Event → Message → ℕ → Rank → List ℕ → Planned
   planned count ev m me r row =
       cond (eqb (refusal n dead count ev r m) accepted)
       (fitting count ev r row (acting ev m me r row))
       (refusing (refusal n dead count ev r m) r row)
+
+-- What a plan, and what an answer with a plan in it, is of these.
+abbrev pub as_planned : Plan → Planned
+as_planned p = record { answer = accepted; leaves = p.leaves; dies = p.dies; acted = p.acted }
+
+abbrev pub told : Rank → List ℕ → Result Plan Refusal → Planned
+told r row (Ok p) = as_planned p
+told r row (Err e) = refusing (number e) r row

@@ -1,19 +1,13 @@
 -- A public contract leaves nothing open: two replies to the same call that meet it are the same, and so is the lent slice at exit.
 -- Assumes nothing.
-use mathlib.Core.Path.{◌≡◌, refl, ap, ◌∙◌}
-use Prim.Native.Nat.{ℕ}
+use mathlib.Core.Path.{◌≡◌, refl}
 use contract.Lifetimes.{Lfts}
 use Rattle.sets.proofs.Laws.Alike.{alike}
 use Rattle.events.specs.declared.Event.{Event}
 use Rattle.state.specs.declared.State.{State}
-use Rattle.playing.specs.declared.Ran.{Ran}
 use Rattle.playing.proofs.event_in.Reads as event_in
 use Rattle.playing.proofs.put_three.Reads as put_three
 use Rattle.playing.proofs.play.Reads as play
-
--- The answer of a run is its number and its state.
-pub ran_alike : (t u : Ran) → t.answer ≡ u.answer → t.state ≡ u.state → t ≡ u
-ran_alike t u p q = ap {B = Ran} (λ (n : ℕ). record { answer = n; state = t.state }) p ∙ ap {B = Ran} (λ (s : State). record { answer = u.answer; state = s }) q
 
 pub event_in_determined : (κs : Lfts 1) (a : _) (t u : Event) (x y : _) → event_in.Post κs a t x → event_in.Post κs a u y → t ≡ u
 event_in_determined κs a t u x y e f = alike e f

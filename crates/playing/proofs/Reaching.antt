@@ -10,8 +10,7 @@ use lib.ListN.{length}
 use Rattle.sets.proofs.Laws.Bools.{eq_or_ne}
 use Rattle.events.specs.declared.Event.{Event}
 use Rattle.state.specs.declared.State.{State}
-use Rattle.group.specs.declared.Stepped.{Stepped}
-use Rattle.group.specs.Events.{event}
+use Rattle.group.specs.Events.{Stepped, event}
 use Rattle.group.specs.Reaching.{Reaches, next, SameForm}
 use Rattle.group.proofs.Laws.Events.{refused_stays}
 use Rattle.group.proofs.Forms.{an_event_keeps_the_form}

@@ -1,12 +1,11 @@
 -- Events one after the other: each on the state that the one before left, and its three numbers in a slice. Over any ancestor sets, and over
 -- events given by their place, so that a schedule file and a lent run of numbers share it.
 use Rattle.std.specs.Prelude.{ℕ, zero, suc, ◌+◌, ◌*◌, List, get_or, set}
-use Rattle.tree.specs.Refusals.{accepted}
+use Rattle.answers.specs.Refusals.{accepted}
 use Rattle.events.specs.declared.Event.{Event}
 use Rattle.events.specs.Events.{event_of}
 use Rattle.state.specs.declared.State.{State}
-use Rattle.group.specs.declared.Stepped.{Stepped}
-use Rattle.group.specs.Events.{event}
+use Rattle.group.specs.Events.{Stepped, event}
 
 -- Three numbers at place k of a slice that has three numbers for each event.
 unfoldable pub written : List ℕ → ℕ → ℕ → ℕ → ℕ → List ℕ

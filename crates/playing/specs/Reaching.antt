@@ -2,8 +2,7 @@
 use Rattle.std.specs.Prelude.{ℕ, zero, suc, ◌+◌, ◌*◌, ◌≡◌, List, get_or}
 use Rattle.events.specs.declared.Event.{Event}
 use Rattle.state.specs.declared.State.{State}
-use Rattle.group.specs.declared.Stepped.{Stepped}
-use Rattle.group.specs.Events.{event}
+use Rattle.group.specs.Events.{Stepped, event}
 
 -- The state after the first k events, from s on. A refused event hands back the state as it was.
 unfoldable pub state_after : (ℕ → ℕ) → (ℕ → Event) → State → ℕ → State

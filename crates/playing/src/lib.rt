@@ -2,19 +2,24 @@
 #![tactic(auto)]
 
 ghost use Rattle.std.specs.Prelude.{◌≡◌, ◌+◌, ◌*◌, ◌≤◌, length};
-ghost use Rattle.state.specs.States.{joined, own_tree};
+ghost use Rattle.state.specs.States.{own_tree};
 ghost use Rattle.order.specs.Between.{InOrder};
+ghost use Rattle.group.specs.Events.{event};
 ghost use Rattle.playing.specs.Playing.{event_in, played, written};
+ghost use Rattle.playing.specs.Between.{listed, told_of};
 
+use answers::Refusal;
 use events::Event;
-use rank::{Message, Rank};
-use state::{Group, State};
+use net::Flight;
+use rank::Seat;
+use state::State;
+use tree::Moved;
 
-// The answer of a run, with the final group and its tables.
+// What is told of an accepted event: how many messages were sent, and which ranks moved.
 #[derive(Clone, Copy)]
-pub struct Ran {
-    pub answer: u32,
-    pub state: State,
+struct Told {
+    sent: u32,
+    moved: Moved,
 }
 
 // The event at a place of a run of numbers.
@@ -41,82 +46,57 @@ pub fn put_three(out: &mut [u32], k: usize, x: u32, y: u32, z: u32)
     out[place + 2] = z;
 }
 
-// A state from its parts.
-fn assemble(
-    n: u8,
-    form: u8,
-    span: u8,
-    count: u8,
-    dead: u64,
-    ranks: [Rank; 64],
-    net: [Message; 128],
-    tables: [[u8; 64]; 64],
-) -> State
-    ensures { result ≡ joined (record { n = n; form = form; span = span; count = count; dead = dead; ranks = ranks; net = net }) tables }
+// One event on a state in order, whose messages in flight are held beside it. Only what the event changes is stored.
+fn advance(s: &mut State, flight: &mut Flight, ev: Event) -> Result<Told, Refusal>
+    requires { InOrder (own_tree s.old) (listed s.old flight.old) }
+    ensures { told_of result (listed s.new flight.new) ≡ event (own_tree s.old) (listed s.old flight.old) ev }
 {
-    let group = Group {
-        n,
-        form,
-        span,
-        count,
-        dead,
-        ranks,
-        net,
+    let m = flight.at(ev.a);
+    let me = plans::subject(s.group.n, ev, m);
+    let r = s.group.ranks[me as usize];
+    let count = flight.count();
+    refusals::refusal(s.group.n, s.group.dead, count, ev, r, m)?;
+    let row = s.tables[me as usize];
+    let seat = Seat {
+        n: s.group.n,
+        form: s.group.form,
+        span: s.group.span,
+        me,
+        rank: r,
+        row,
     };
-    state::join(group, tables)
+    let p = plans::plan_clean(seat, s.group.dead, count, ev, m)?;
+    let sent = group::post(flight, ev.a, me, p);
+    let told = Told {
+        sent,
+        moved: p.acted.moved,
+    };
+    s.group.dead = group::buried(s.group.dead, me, p.dies);
+    s.group.ranks[me as usize] = p.acted.rank;
+    if p.acted.rank.marks == r.marks {
+        return Ok(told);
+    }
+    let row = p.acted.row;
+    s.tables[me as usize] = row;
+    Ok(told)
 }
 
-// Plays the events that are spelt out in the slice on a state in order; what is told of an event takes its place. It holds the state's parts
-// by themselves, so that an event stores only what changes; a refusal is found before the rank's record and row are taken out.
-pub fn play(total: usize, out: &mut [u32], s: State) -> State
+// Plays the events that are spelt out in the slice on a state in order; what is told of an event takes its place.
+pub fn play(total: usize, out: &mut [u32], mut s: State) -> State
     requires in_order { InOrder (own_tree s) s }
     requires total_in_bounds { 3 * total ≤ length out.old }
     ensures value { result ≡ (played (own_tree s) (event_in out.old) total 0 s out.old).state }
     ensures out_after { out.new ≡ (played (own_tree s) (event_in out.old) total 0 s out.old).answers }
 {
-    let g = s.group;
-    let n = g.n;
-    let form = g.form;
-    let span = g.span;
-    let mut dead = g.dead;
-    let mut count = g.count;
-    let mut ranks = g.ranks;
-    let given = g.net;
-    let mut net = net::numbers(given, count);
-    let mut tables = state::tables_of(s);
-    let mut k: usize = 0;
-    while k < total {
+    let mut flight = Flight::of(s.group.net, s.group.count);
+    for k in 0..total {
         let ev = event_in(out, k);
-        let m = net::message_at(&net, ev.a);
-        let me = plans::subject(n, ev, m);
-        let number = refusals::refusal(n, dead, count, ev, ranks[me as usize], m);
-        if number != 0 {
-            put_three(out, k, number, 0, 0);
-            k += 1;
-            continue;
-        }
-        let r = ranks[me as usize];
-        let row = tables[me as usize];
-        let p = plans::plan_clean(n, form, span, dead, count, ev, m, me, r, row);
-        if p.answer != 0 {
-            put_three(out, k, p.answer, 0, 0);
-            k += 1;
-            continue;
-        }
-        let after = group::post(&mut net, count, ev.a, me, p);
-        let acted = p.acted;
-        let moved = acted.moved;
-        put_three(out, k, 0, after.sent, moved.count);
-        k += 1;
-        count = after.count;
-        dead = group::buried(dead, me, p.dies);
-        let rank = acted.rank;
-        let table = acted.row;
-        ranks[me as usize] = rank;
-        if rank.marks != r.marks {
-            tables[me as usize] = table;
+        match advance(&mut s, &mut flight, ev) {
+            Ok(told) => put_three(out, k, 0, told.sent, told.moved.count),
+            Err(refusal) => put_three(out, k, refusal.number(), 0, 0),
         }
     }
-    let messages = net::messages(net, count);
-    assemble(n, form, span, count, dead, ranks, messages, tables)
+    s.group.count = flight.count();
+    s.group.net = flight.places();
+    s
 }

@@ -9,15 +9,16 @@ use std::io;
 use std::io::{ErrorKind, Read, Write};
 
 // One byte more than the longest file has, so that a longer one is seen.
-const FILE: usize = 36871;
+pub const FILE: usize = 36871;
 
 // Three numbers for each of 4,096 events.
-const ANSWERS: usize = 12288;
+pub const ANSWERS: usize = 12288;
 
 // The longest listing.
 const TEXT: usize = 183922;
 
-// Writes all of the bytes. The only errors are the writer's, which is handed on, and that it takes no more; it holds then what it took before.
+// Writes all of the bytes. The only errors are the writer's, which is handed on, and that it takes no more; it holds then what it took before. Of that
+// std's write_all says nothing.
 fn write_full<W: Write>(to: &mut W, bytes: &[u8]) -> io::Result<()>
     ensures ok { OnOk result (Appends (W.contents to.old) (W.contents to.new) bytes.now) }
     ensures err { IfErr result (λ _. (k : ℕ) × Appends (W.contents to.old) (W.contents to.new) (take k bytes.now)) }
@@ -43,6 +44,6 @@ pub fn print<R: Read, W: Write>(from: &mut R, to: &mut W) -> io::Result<()>
     let mut answers = [0u32; ANSWERS];
     let mut text = [0u8; TEXT];
     let got = reading::read_full(from, &mut file)?;
-    let end = listing::report(&file, got, &mut answers, &mut text);
+    let end = listing::report(&file[..got], &mut answers, &mut text);
     write_full(to, &text[..end])
 }

@@ -3,41 +3,33 @@
 #![tactic(auto)]
 
 ghost use Rattle.std.specs.Prelude.{◌≡◌, ◌≤◌, get_or};
-ghost use Rattle.proposing.specs.Proposing.{after_node, is_digit, marks_in, number_in, number_from, size_in, width};
+ghost use Rattle.sets.specs.Sets.{found};
+ghost use Rattle.proposing.specs.Proposing.{after_node, marks_in, number_in, number_from, size_in, width};
 
 // The byte at a place, 0 past the end.
 fn byte_at(text: &[u8], at: usize) -> u8
     ensures { result ≡ get_or text.now at 0 }
 {
-    if at < text.len() {
-        return text[at];
-    }
-    0
+    text.get(at).copied().unwrap_or(0)
 }
 
-fn is_digit(b: u8) -> bool
-    ensures { result ≡ is_digit b }
+// The number of one digit or two that two bytes begin with, where the first is a digit.
+fn number_from(first: u8, second: u8) -> Option<u8>
+    ensures { result ≡ found (number_from first second) }
 {
-    (48 <= b) & (b <= 57)
-}
-
-// The number of one digit or two that two bytes begin with; NONE where the first is no digit.
-fn number_from(first: u8, second: u8) -> u8
-    ensures { result ≡ number_from first second }
-{
-    if !is_digit(first) {
-        return sets::NONE;
+    if !first.is_ascii_digit() {
+        return None;
     }
-    if !is_digit(second) {
-        return first - 48;
+    if !second.is_ascii_digit() {
+        return Some(first - b'0');
     }
-    10 * (first - 48) + (second - 48)
+    Some(10 * (first - b'0') + (second - b'0'))
 }
 
 // The number at a place.
-fn number_in(text: &[u8], at: usize) -> u8
+fn number_in(text: &[u8], at: usize) -> Option<u8>
     requires { at ≤ 4096 }
-    ensures { result ≡ number_in text.now at }
+    ensures { result ≡ found (number_in text.now at) }
 {
     number_from(byte_at(text, at), byte_at(text, at + 1))
 }
@@ -62,8 +54,8 @@ fn after_node(text: &[u8], at: usize, p: u8) -> usize
 }
 
 // The size that the first line names.
-pub fn size_in(text: &[u8]) -> u8
-    ensures { result ≡ size_in text.now }
+pub fn size_in(text: &[u8]) -> Option<u8>
+    ensures { result ≡ found (size_in text.now) }
 {
     number_in(text, 9)
 }
@@ -75,14 +67,12 @@ pub fn marks_in(text: &[u8], n: u8) -> u64
 {
     let mut marks: u64 = 0;
     let mut at = 12 + width(n);
-    let mut p: u8 = 0;
-    while p < n {
-        if number_in(text, at) == p {
+    for p in 0..n {
+        if number_in(text, at) == Some(p) {
             at = after_node(text, at, p);
         } else {
             marks = sets::with(marks, p);
         }
-        p += 1;
     }
     marks
 }

@@ -11,6 +11,8 @@ pub extern "C" fn duha_run(file: &[u8], out: &mut [u32]) -> u32
     ensures value { result ≡ (run file.now out.old).answer }
     ensures out_after { out.new ≡ (run file.now out.old).answers }
 {
-    let ran = schedule::run(file, out);
-    ran.answer
+    match schedule::run(file, out) {
+        Ok(_) => 0,
+        Err(refused) => refused.refusal.number(),
+    }
 }

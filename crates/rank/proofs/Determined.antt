@@ -13,13 +13,13 @@ use Rattle.rank.proofs.Send.silent.Reads as silent
 use Rattle.rank.proofs.Send.down.Reads as send_down
 use Rattle.rank.proofs.Send.ask.Reads as send_ask
 use Rattle.rank.proofs.Rank.fresh.Reads as fresh
-use Rattle.rank.proofs.Rank.settle.Reads as settle
-use Rattle.rank.proofs.Rank.enter.Reads as enter
-use Rattle.rank.proofs.Rank.up.Reads as up
-use Rattle.rank.proofs.Rank.down.Reads as rank_down
-use Rattle.rank.proofs.Rank.ask.Reads as rank_ask
-use Rattle.rank.proofs.Rank.notice.Reads as notice
-use Rattle.rank.proofs.Rank.acknowledge.Reads as acknowledge
+use Rattle.rank.proofs.Seat.settle.Reads as settle
+use Rattle.rank.proofs.Seat.enter.Reads as enter
+use Rattle.rank.proofs.Seat.up.Reads as up
+use Rattle.rank.proofs.Seat.down.Reads as seat_down
+use Rattle.rank.proofs.Seat.ask.Reads as seat_ask
+use Rattle.rank.proofs.Seat.notice.Reads as notice
+use Rattle.rank.proofs.Seat.acknowledge.Reads as acknowledge
 
 pub zero_determined : (κs : Lfts 0) (a : _) (t u : Triple) (x y : _) → zero.Post κs a t x → zero.Post κs a u y → t ≡ u
 zero_determined κs a t u x y e f = alike e f
@@ -48,11 +48,11 @@ enter_determined κs a t u x y e f = alike e f
 pub up_determined : (κs : Lfts 0) (a : _) (t u : Acted) (x y : _) → up.Post κs a t x → up.Post κs a u y → t ≡ u
 up_determined κs a t u x y e f = alike e f
 
-pub rank_down_determined : (κs : Lfts 0) (a : _) (t u : Acted) (x y : _) → rank_down.Post κs a t x → rank_down.Post κs a u y → t ≡ u
-rank_down_determined κs a t u x y e f = alike e f
+pub seat_down_determined : (κs : Lfts 0) (a : _) (t u : Acted) (x y : _) → seat_down.Post κs a t x → seat_down.Post κs a u y → t ≡ u
+seat_down_determined κs a t u x y e f = alike e f
 
-pub rank_ask_determined : (κs : Lfts 0) (a : _) (t u : Acted) (x y : _) → rank_ask.Post κs a t x → rank_ask.Post κs a u y → t ≡ u
-rank_ask_determined κs a t u x y e f = alike e f
+pub seat_ask_determined : (κs : Lfts 0) (a : _) (t u : Acted) (x y : _) → seat_ask.Post κs a t x → seat_ask.Post κs a u y → t ≡ u
+seat_ask_determined κs a t u x y e f = alike e f
 
 pub notice_determined : (κs : Lfts 0) (a : _) (t u : Acted) (x y : _) → notice.Post κs a t x → notice.Post κs a u y → t ≡ u
 notice_determined κs a t u x y e f = alike e f

@@ -43,13 +43,7 @@ module _ (anc : ℕ → ℕ) (n me : ℕ) where
 
   unfoldable pub settling : Said → Moved → Acted
   settling s moved =
-      record {
-        rank = (settled s.rank).rank;
-        row = fresh anc n (settled s.rank).rank.marks;
-        first = s.send;
-        second = (settled s.rank).send;
-        moved = moved;
-      }
+      record { rank = (settled s.rank).rank; row = fresh anc n (settled s.rank).rank.marks; first = s.send; second = (settled s.rank).send; moved = moved }
 
   -- Enter with w: the triple is combined with what the rank proposes, phase gathering. Then settle.
   unfoldable pub entering : ℕ → Rank → Acted

@@ -1,21 +1,23 @@
 // One rank: what it holds, and what it does when it enters, takes a message, hears of a death, or settles.
-// A record goes in by value and the new record comes back, with its row of the tables, what it sends, and moved.
-#![tactic(auto)]
+// A rank at its seat goes in by value and the new record comes back, with its row of the tables, what it sends, and moved.
+// The proofs below may cite the laws and open the definitions that stand here.
+#![tactic(auto, using(crate::proofs::Laws::Acting::along_the_code), unfolding(crate::specs::Rules::saying, crate::specs::Rules::in_phase, crate::specs::Rules::deciding, crate::specs::Rules::settled, crate::specs::Rules::done, crate::specs::Rules::settling, crate::specs::Rules::entering, crate::specs::Rules::lowered, crate::specs::Rules::taking_down, crate::specs::Rules::asked, crate::specs::Rules::renewing, crate::specs::Rules::regathering, crate::specs::Rules::orphaned, crate::specs::Rules::noticing, crate::specs::Rules::acknowledging, crate::specs::Records::becoming, crate::specs::Records::combining, crate::specs::Records::concluding, crate::specs::Records::owing, crate::specs::Records::admitting, crate::specs::Records::proposal, crate::specs::Records::children_of, crate::specs::Records::fresh_rank, crate::specs::Records::hearing, crate::specs::Sends::silent, crate::specs::Sends::reports, crate::specs::Sends::tells, crate::specs::Sends::asks, crate::specs::Triples::fresh_triple, crate::specs::Triples::combine, crate::specs::Triples::closing, crate::specs::Triples::code))]
 
-ghost use Rattle.std.specs.Prelude.{◌≡◌, ℕ, ◌<◌, ◌≤◌, ◌&&◌, false, eqb, get_or};
+ghost use Rattle.std.specs.Prelude.{◌≡◌, ℕ, ◌<◌, ◌≤◌, ◌&&◌, cond, false, eqb, get_or};
 ghost use Rattle.sets.specs.Sets.{has, meet, none, set_of};
-ghost use Rattle.tree.specs.Tree.{children, parent};
+ghost use Rattle.tree.specs.Tree.{children, fresh, nobody, parent};
 ghost use Rattle.tree.specs.Forms.{tree_of};
+ghost use Rattle.tree.specs.Calls.{mended, mended_below};
 ghost use Rattle.rank.specs.Words.{gathering, waiting};
 ghost use Rattle.rank.specs.Triples.{closing, code, combine, fresh_triple, zero_triple};
-ghost use Rattle.rank.specs.Records.{awaiting, children_of, fresh_rank, parent_of, proposal, viewing};
+ghost use Rattle.rank.specs.Records.{children_of, fresh_rank, parent_of, proposal, viewing};
 ghost use Rattle.rank.specs.Sends.{asks, reports, silent, tells};
-ghost use Rattle.rank.specs.Rules.{acknowledging, asked, bereaved, deciding, entering, in_phase, noticing, orphaned, saying, settled, settling, taking_ask, taking_down, taking_up};
-ghost use Rattle.rank.specs.Between.{FreshRow};
+ghost use Rattle.rank.specs.Rules.{acknowledging, asked, deciding, done, entering, in_phase, noticing, orphaned, saying, settled, settling, taking_ask, taking_down, taking_up};
+ghost use Rattle.rank.specs.Between.{Awaits, FreshRow};
 
-use tree::Moved;
+use tree::{Mended, Moved, View};
 
-// Phases.
+// Phases: a number and no enum, since a caller of group::event may hand in any.
 pub const OUTSIDE: u8 = 0;
 
 pub const GATHERING: u8 = 1;
@@ -24,7 +26,7 @@ pub const WAITING: u8 = 2;
 
 pub const DECIDED: u8 = 3;
 
-// Kinds of messages.
+// Kinds of messages, numbers for the same reason.
 pub const UP: u8 = 1;
 
 pub const DOWN: u8 = 2;
@@ -32,15 +34,15 @@ pub const DOWN: u8 = 2;
 pub const ASK: u8 = 3;
 
 // What ranks vote on: a word, a set of known dead, and an acknowledged set.
-#[derive(Clone, Copy)]
+#[derive(Clone, Copy, PartialEq, Eq)]
 pub struct Triple {
     pub word: u32,
     pub known: u64,
     pub acknowledged: u64,
 }
 
-// What a rank holds; its row of the tables travels beside it.
-#[derive(Clone, Copy)]
+// What a rank holds.
+#[derive(Clone, Copy, PartialEq, Eq)]
 pub struct Rank {
     pub phase: u8,
     pub marks: u64,
@@ -52,8 +54,21 @@ pub struct Rank {
     pub result: Triple,
 }
 
-// One message in flight.
+// A rank at its seat: its group's size and tree, its own number, its record, and its row, the fresh table of its view. That its awaited set is
+// the fresh one is a clause and no field: acknowledge asks nothing of it.
 #[derive(Clone, Copy)]
+pub struct Seat {
+    pub n: u8,
+    pub form: u8,
+    pub span: u8,
+    pub me: u8,
+    pub rank: Rank,
+    pub row: [u8; 64],
+    pub ghost fresh_row: { FreshRow (tree_of form span) n me rank row },
+}
+
+// One message in flight.
+#[derive(Clone, Copy, PartialEq, Eq)]
 pub struct Message {
     pub kind: u8,
     pub from: u8,
@@ -176,31 +191,35 @@ impl Send {
 }
 
 impl Rank {
-    // A rank that has done nothing yet.
+    // A rank that has done nothing yet, for the seat of these numbers and this row.
     pub fn fresh(n: u8, form: u8, span: u8, me: u8, row: [u8; 64]) -> Rank
         requires { FreshRow (tree_of form span) n me (fresh_rank (tree_of form span) n me) row }
         ensures { result ≡ fresh_rank (tree_of form span) n me }
     {
+        let view = View {
+            n,
+            form,
+            span,
+            marks: 0,
+            table: row,
+        };
         Rank {
             phase: OUTSIDE,
             marks: 0,
             acknowledged: 0,
             heard: 0,
-            awaited: tree::children_of(n, form, span, 0, row, me),
+            awaited: view.children_of(me),
             owed: 0,
             triple: Triple::fresh(n),
             result: Triple::zero(),
         }
     }
 
-    // Nothing is said.
-    fn still(self) -> Said
-        ensures { result ≡ saying self silent }
+    // It says this.
+    fn saying(self, send: Send) -> Said
+        ensures { result ≡ saying self send }
     {
-        Said {
-            rank: self,
-            send: Send::silent(),
-        }
+        Said { rank: self, send }
     }
 
     // UP triple to q.
@@ -208,78 +227,10 @@ impl Rank {
         requires { q < 64 }
         ensures { result ≡ reports self q }
     {
-        let triple = self.triple;
         Send {
             kind: UP,
-            triple,
+            triple: self.triple,
             to: sets::only(q),
-        }
-    }
-
-    // Result x, phase decided, DOWN x to every unmarked rank in children or owed.
-    fn decide(mut self, n: u8, form: u8, span: u8, me: u8, row: [u8; 64], x: Triple) -> Said
-        requires fresh_row { FreshRow (tree_of form span) n me self row }
-        requires awaited_value { self.awaited ≡ awaiting (tree_of form span) n me self.marks self.heard }
-        ensures { result ≡ deciding (tree_of form span) n me x self }
-    {
-        // a child is awaited or was heard; of the heard ones, who is owed is told anyway, and only the others are looked up
-        let heard = tree::pointing(row, sets::minus(self.heard, self.owed), me);
-        let children = sets::union(self.awaited, heard);
-        let to = sets::minus(sets::union(children, self.owed), self.marks);
-        self.phase = DECIDED;
-        self.result = x;
-        Said {
-            rank: self,
-            send: Send::down(x, to),
-        }
-    }
-
-    // Decides or reports, where it gathers and nobody is awaited any more.
-    fn settled(mut self, n: u8, form: u8, span: u8, me: u8, row: [u8; 64]) -> Said
-        requires fresh_row { FreshRow (tree_of form span) n me self row }
-        requires awaited_value { self.awaited ≡ awaiting (tree_of form span) n me self.marks self.heard }
-        ensures { result ≡ settled (tree_of form span) n me self }
-    {
-        if self.phase != GATHERING {
-            return self.still();
-        }
-        if self.awaited != 0 {
-            return self.still();
-        }
-        let parent = row[me as usize];
-        if parent == sets::NONE {
-            let triple = self.triple;
-            return self.decide(n, form, span, me, row, triple.close(self.marks));
-        }
-        let send = self.report(parent);
-        self.phase = WAITING;
-        Said { rank: self, send }
-    }
-
-    // Settles; `first` is what the rule has sent before.
-    pub fn settle(
-        self,
-        n: u8,
-        form: u8,
-        span: u8,
-        me: u8,
-        row: [u8; 64],
-        first: Send,
-        moved: Moved,
-    ) -> Acted
-        requires fresh_row { FreshRow (tree_of form span) n me self row }
-        requires awaited_value { self.awaited ≡ awaiting (tree_of form span) n me self.marks self.heard }
-        ensures { result ≡ settling (tree_of form span) n me (saying self first) moved }
-    {
-        let end = self.settled(n, form, span, me, row);
-        let rank = end.rank;
-        let second = end.send;
-        Acted {
-            rank,
-            row,
-            first,
-            second,
-            moved,
         }
     }
 
@@ -293,245 +244,280 @@ impl Rank {
             acknowledged: self.acknowledged,
         }
     }
+}
+
+impl Seat {
+    // Its view, with its row for a table.
+    fn own_view(self) -> View
+        ensures n_value { result.n ≡ self.n }
+        ensures form_value { result.form ≡ self.form }
+        ensures span_value { result.span ≡ self.span }
+        ensures marks_value { result.marks ≡ self.rank.marks }
+    {
+        let table = self.row;
+        View {
+            n: self.n,
+            form: self.form,
+            span: self.span,
+            marks: self.rank.marks,
+            table,
+        }
+    }
+
+    fn children(self) -> u64
+        ensures { result ≡ children_of (tree_of self.form self.span) self.n self.me self.rank }
+    {
+        self.own_view().children_of(self.me)
+    }
+
+    // Its view once q is marked, and once all below q are.
+    fn mended(self, q: u8) -> Mended
+        requires { q < self.n }
+        ensures { result ≡ mended (tree_of self.form self.span) self.n self.rank.marks q }
+    {
+        self.own_view().mend(q)
+    }
+
+    fn mended_below(self, q: u8) -> Mended
+        requires { q ≤ self.n }
+        ensures { result ≡ mended_below (tree_of self.form self.span) self.n self.rank.marks q }
+    {
+        self.own_view().mend_below(q)
+    }
+
+    // Result x, phase decided, DOWN x to every unmarked rank in children or owed.
+    fn decide(self, x: Triple) -> Said
+        requires { Awaits (tree_of self.form self.span) self.n self.me self.rank }
+        ensures { result ≡ deciding (tree_of self.form self.span) self.n self.me x self.rank }
+    {
+        let mut r = self.rank;
+        // a child is awaited or was heard; of the heard ones, who is owed is told anyway, and only the others are looked up
+        let heard = tree::pointing(self.row, sets::minus(r.heard, r.owed), self.me);
+        let children = sets::union(r.awaited, heard);
+        let to = sets::minus(sets::union(children, r.owed), r.marks);
+        r.phase = DECIDED;
+        r.result = x;
+        r.saying(Send::down(x, to))
+    }
+
+    // Decides or reports, where it gathers and nobody is awaited any more.
+    fn settled(self) -> Said
+        requires { Awaits (tree_of self.form self.span) self.n self.me self.rank }
+        ensures { result ≡ settled (tree_of self.form self.span) self.n self.me self.rank }
+    {
+        let mut r = self.rank;
+        if (r.phase != GATHERING) | (r.awaited != 0) {
+            return r.saying(Send::silent());
+        }
+        let parent = self.row[self.me as usize];
+        if parent == sets::NONE {
+            return self.decide(r.triple.close(r.marks));
+        }
+        let send = r.report(parent);
+        r.phase = WAITING;
+        r.saying(send)
+    }
+
+    // Settles; `first` is what the rule has sent before.
+    pub fn settle(self, first: Send, moved: Moved) -> Acted
+        requires { Awaits (tree_of self.form self.span) self.n self.me self.rank }
+        ensures { result ≡ settling (tree_of self.form self.span) self.n self.me (saying self.rank first) moved }
+    {
+        let row = self.row;
+        let end = self.settled();
+        Acted {
+            rank: end.rank,
+            row,
+            first,
+            second: end.send,
+            moved,
+        }
+    }
+
+    // A rule that moves nobody and does not settle ends here.
+    fn done(self, first: Send) -> Acted
+        ensures { result ≡ done (tree_of self.form self.span) self.n self.me (saying self.rank first) nobody }
+    {
+        let row = self.row;
+        Acted {
+            rank: self.rank,
+            row,
+            first,
+            second: Send::silent(),
+            moved: Moved::nobody(),
+        }
+    }
 
     // The rank enters with word w.
-    pub fn enter(mut self, n: u8, form: u8, span: u8, me: u8, row: [u8; 64], w: u32) -> Acted
-        requires fresh_row { FreshRow (tree_of form span) n me self row }
-        requires awaited_value { self.awaited ≡ awaiting (tree_of form span) n me self.marks self.heard }
-        ensures { result ≡ entering (tree_of form span) n me w self }
+    pub fn enter(mut self, w: u32) -> Acted
+        requires { Awaits (tree_of self.form self.span) self.n self.me self.rank }
+        ensures { result ≡ entering (tree_of self.form self.span) self.n self.me w self.rank }
     {
-        let triple = self.triple;
-        self.triple = triple.combine(self.propose(w));
-        self.phase = GATHERING;
-        self.settle(n, form, span, me, row, Send::silent(), Moved::nobody())
+        self.rank.triple = self.rank.triple.combine(self.rank.propose(w));
+        self.rank.phase = GATHERING;
+        self.settle(Send::silent(), Moved::nobody())
     }
 
     // UP x from q.
-    pub fn up(mut self, n: u8, form: u8, span: u8, me: u8, row: [u8; 64], q: u8, x: Triple) -> Acted
-        requires fresh_row { FreshRow (tree_of form span) n me self row }
-        requires awaited_value { self.awaited ≡ awaiting (tree_of form span) n me self.marks self.heard }
-        requires q_lt_n { q < n }
-        ensures { result ≡ taking_up (tree_of form span) n me q x self }
+    #[tactic(auto, using(crate::proofs::Laws::Acting::fewer_awaited), unfolding(crate::specs::Rules::taking_up, crate::specs::Rules::raised, crate::specs::Rules::noting, crate::specs::Rules::in_phase, crate::specs::Records::owing, crate::specs::Records::combining, crate::specs::Records::hearing))]
+    pub fn up(mut self, q: u8, x: Triple) -> Acted
+        requires awaits { Awaits (tree_of self.form self.span) self.n self.me self.rank }
+        requires q_lt_n { q < self.n }
+        ensures { result ≡ taking_up (tree_of self.form self.span) self.n self.me q x self.rank }
     {
-        if self.phase == DECIDED {
-            let result = self.result;
-            let told = Send::down(result, sets::only(q));
-            return self.settle(n, form, span, me, row, told, Moved::nobody());
+        if self.rank.phase == DECIDED {
+            return self.settle(Send::down(self.rank.result, sets::only(q)), Moved::nobody());
         }
-        self.heard = sets::with(self.heard, q);
-        self.owed = sets::with(self.owed, q);
-        self.awaited = sets::minus(self.awaited, sets::only(q));
-        let triple = self.triple;
-        self.triple = triple.combine(x);
-        self.settle(n, form, span, me, row, Send::silent(), Moved::nobody())
+        self.rank.heard = sets::with(self.rank.heard, q);
+        self.rank.owed = sets::with(self.rank.owed, q);
+        self.rank.awaited = sets::minus(self.rank.awaited, sets::only(q));
+        self.rank.triple = self.rank.triple.combine(x);
+        self.settle(Send::silent(), Moved::nobody())
     }
 
     // DOWN x.
-    pub fn down(self, n: u8, form: u8, span: u8, me: u8, row: [u8; 64], x: Triple) -> Acted
-        requires fresh_row { FreshRow (tree_of form span) n me self row }
-        requires awaited_value { self.awaited ≡ awaiting (tree_of form span) n me self.marks self.heard }
-        ensures { result ≡ taking_down (tree_of form span) n me x self }
+    pub fn down(mut self, x: Triple) -> Acted
+        requires { Awaits (tree_of self.form self.span) self.n self.me self.rank }
+        ensures { result ≡ taking_down (tree_of self.form self.span) self.n self.me x self.rank }
     {
-        if (self.phase == GATHERING) | (self.phase == WAITING) {
-            let end = self.decide(n, form, span, me, row, x);
-            let rank = end.rank;
-            let first = end.send;
-            return Acted {
-                rank,
-                row,
-                first,
-                second: Send::silent(),
-                moved: Moved::nobody(),
-            };
+        if (self.rank.phase != GATHERING) & (self.rank.phase != WAITING) {
+            return self.done(Send::silent());
         }
-        Acted {
-            rank: self,
-            row,
-            first: Send::silent(),
-            second: Send::silent(),
-            moved: Moved::nobody(),
-        }
+        let end = self.decide(x);
+        self.rank = end.rank;
+        self.done(end.send)
     }
 
-    // A new view, with its table, who moved by it, and who of these came here: awaited are those who stayed and those who came, if not heard and
-    // not marked.
-    fn view(
-        mut self,
-        n: u8,
-        form: u8,
-        span: u8,
-        me: u8,
-        marks: u64,
-        row: [u8; 64],
-        moved: u64,
-        gained: u64,
-    ) -> Rank
-        requires fresh_row { FreshRow (tree_of form span) n me (viewing (tree_of form span) n me marks self) row }
-        requires awaited_value { self.awaited ≡ awaiting (tree_of form span) n me self.marks self.heard }
-        requires by_index { (p : ℕ) → has marks p ≡ false → has self.marks p ≡ false }
-        requires by_index_2 { (p : ℕ) → p < n → has marks p ≡ false → has moved p ≡ false → parent (tree_of form span) marks p ≡ parent (tree_of form span) self.marks p }
-        requires gained_value { gained ≡ meet moved (set_of (λ p. eqb (get_or row p 0) me) 64) }
-        ensures { result ≡ viewing (tree_of form span) n me marks self }
+    // A new view, and who of those who moved by it came here: awaited are those who stayed and those who came, if not heard and not marked.
+    fn view(self, m: Mended, gained: u64) -> Rank
+        requires table_value { m.table ≡ fresh (tree_of self.form self.span) self.n m.marks }
+        requires awaits { Awaits (tree_of self.form self.span) self.n self.me self.rank }
+        requires marks_stay { (p : ℕ) → has m.marks p ≡ false → has self.rank.marks p ≡ false }
+        requires parents_stay { (p : ℕ) → p < self.n → has m.marks p ≡ false → has m.moved.ranks p ≡ false → parent (tree_of self.form self.span) m.marks p ≡ parent (tree_of self.form self.span) self.rank.marks p }
+        requires gained_value { gained ≡ meet m.moved.ranks (set_of (λ p. eqb (get_or m.table p 0) self.me) 64) }
+        ensures { result ≡ viewing (tree_of self.form self.span) self.n self.me m.marks self.rank }
     {
-        let stayed = sets::minus(self.awaited, moved);
-        let unheard = sets::minus(sets::union(stayed, gained), self.heard);
-        self.marks = marks;
-        self.awaited = sets::minus(unheard, marks);
-        self
+        let mut r = self.rank;
+        let stayed = sets::minus(r.awaited, m.moved.ranks);
+        let unheard = sets::minus(sets::union(stayed, gained), r.heard);
+        r.marks = m.marks;
+        r.awaited = sets::minus(unheard, m.marks);
+        r
     }
 
     // ASK from q: every rank below q is dead.
-    pub fn ask(self, n: u8, form: u8, span: u8, me: u8, row: [u8; 64], q: u8) -> Acted
-        requires fresh_row { FreshRow (tree_of form span) n me self row }
-        requires awaited_value { self.awaited ≡ awaiting (tree_of form span) n me self.marks self.heard }
-        requires q_lt_n { q < n }
-        ensures { result ≡ taking_ask (tree_of form span) n me q self }
+    pub fn ask(mut self, q: u8) -> Acted
+        requires awaits { Awaits (tree_of self.form self.span) self.n self.me self.rank }
+        requires q_lt_n { q < self.n }
+        ensures { result ≡ taking_ask (tree_of self.form self.span) self.n self.me q self.rank }
     {
-        let m = tree::mend_below(n, form, span, self.marks, row, q);
+        let m = self.mended_below(q);
         let table = m.table;
-        let moved = m.moved;
-        let gained = tree::pointing(table, moved.ranks, me);
-        let seen = self.view(n, form, span, me, m.marks, table, moved.ranks, gained);
-        let reply = seen.answer(n, form, span, me, table, q);
-        let rank = reply.rank;
-        rank.settle(n, form, span, me, table, reply.send, moved)
+        self.rank = self.view(m, tree::pointing(table, m.moved.ranks, self.me));
+        self.row = table;
+        let reply = self.answer(q);
+        self.rank = reply.rank;
+        self.settle(reply.send, m.moved)
     }
 
     // What an ASK from q means to a rank that has marked all below q: DOWN if decided, else UP if q is now the parent.
-    fn answer(mut self, n: u8, form: u8, span: u8, me: u8, row: [u8; 64], q: u8) -> Said
-        requires fresh_row { FreshRow (tree_of form span) n me self row }
-        requires q_lt_n { q < n }
-        ensures { result ≡ asked (tree_of form span) n me q self }
+    fn answer(self, q: u8) -> Said
+        requires { q < self.n }
+        ensures { result ≡ asked (tree_of self.form self.span) self.n self.me q self.rank }
     {
-        if self.phase == DECIDED {
-            let result = self.result;
-            return Said {
-                rank: self,
-                send: Send::down(result, sets::only(q)),
-            };
+        let mut r = self.rank;
+        if r.phase == DECIDED {
+            return r.saying(Send::down(r.result, sets::only(q)));
         }
-        self.owed = sets::with(self.owed, q);
-        let parent = row[me as usize];
-        if (self.phase == WAITING) & (parent == q) {
-            return Said {
-                rank: self,
-                send: self.report(q),
-            };
+        r.owed = sets::with(r.owed, q);
+        if self.waits_for(q) {
+            return r.saying(r.report(q));
         }
-        self.still()
-    }
-
-    // Waiting, and the parent died: reports to the new parent, or gathers again as the root and asks all children.
-    fn orphan(mut self, n: u8, form: u8, span: u8, me: u8, row: [u8; 64]) -> Said
-        requires { FreshRow (tree_of form span) n me self row }
-        ensures { result ≡ orphaned (tree_of form span) n me self }
-    {
-        let parent = row[me as usize];
-        if parent != sets::NONE {
-            return Said {
-                rank: self,
-                send: self.report(parent),
-            };
-        }
-        let children = tree::children_of(n, form, span, self.marks, row, me);
-        self.heard = 0;
-        self.awaited = children;
-        self.phase = GATHERING;
-        Said {
-            rank: self,
-            send: Send::ask(children),
-        }
+        r.saying(Send::silent())
     }
 
     // Told that q is dead.
-    pub fn notice(self, n: u8, form: u8, span: u8, me: u8, row: [u8; 64], q: u8) -> Acted
-        requires fresh_row { FreshRow (tree_of form span) n me self row }
-        requires awaited_value { self.awaited ≡ awaiting (tree_of form span) n me self.marks self.heard }
-        requires q_lt_n { q < n }
-        ensures { result ≡ noticing (tree_of form span) n me q self }
+    pub fn notice(mut self, q: u8) -> Acted
+        requires awaits { Awaits (tree_of self.form self.span) self.n self.me self.rank }
+        requires q_lt_n { q < self.n }
+        ensures { result ≡ noticing (tree_of self.form self.span) self.n self.me q self.rank }
     {
-        if sets::member(self.marks, q) {
-            return Acted {
-                rank: self,
-                row,
-                first: Send::silent(),
-                second: Send::silent(),
-                moved: Moved::nobody(),
-            };
+        if sets::member(self.rank.marks, q) {
+            return self.done(Send::silent());
         }
-        let m = tree::mend(n, form, span, self.marks, row, q);
+        let parent_died = self.waits_for(q);
+        let child_died = self.lost_child(q);
+        let m = self.mended(q);
         let table = m.table;
-        let moved = m.moved;
-        let gained = tree::gained(n, form, span, self.marks, q, table, moved.ranks, me);
-        let seen = self.view(n, form, span, me, m.marks, table, moved.ranks, gained);
-        let said = self.bereave(n, form, span, me, row, q, seen, table, gained);
-        let rank = said.rank;
-        rank.settle(n, form, span, me, table, said.send, moved)
+        let gained = tree::gained(
+            self.n,
+            self.form,
+            self.span,
+            self.rank.marks,
+            q,
+            table,
+            m.moved.ranks,
+            self.me,
+        );
+        self.rank = self.view(m, gained);
+        self.row = table;
+        let said = self.mourn(parent_died, child_died, gained);
+        self.rank = said.rank;
+        self.settle(said.send, m.moved)
     }
 
-    // Whether it waits, and q was its parent.
-    fn lost_parent(self, n: u8, form: u8, span: u8, me: u8, row: [u8; 64], q: u8) -> bool
-        requires { FreshRow (tree_of form span) n me self row }
-        ensures { result ≡ in_phase waiting self && eqb (parent_of (tree_of form span) me self) q }
+    // Whether it waits, and q is its parent.
+    fn waits_for(self, q: u8) -> bool
+        ensures { result ≡ in_phase waiting self.rank && eqb (parent_of (tree_of self.form self.span) self.me self.rank) q }
     {
-        (self.phase == WAITING) & (row[me as usize] == q)
+        (self.rank.phase == WAITING) & (self.row[self.me as usize] == q)
     }
 
-    // Whether it gathers without a parent, and q was its child.
-    fn lost_child(self, n: u8, form: u8, span: u8, me: u8, row: [u8; 64], q: u8) -> bool
-        requires fresh_row { FreshRow (tree_of form span) n me self row }
-        requires q_lt_n { q < n }
-        requires q_value { has self.marks q ≡ false }
-        ensures { result ≡ in_phase gathering self && eqb (parent_of (tree_of form span) me self) none && has (children_of (tree_of form span) n me self) q }
+    // Whether it gathers without a parent, and q is its child.
+    fn lost_child(self, q: u8) -> bool
+        requires q_lt_n { q < self.n }
+        requires q_value { has self.rank.marks q ≡ false }
+        ensures { result ≡ in_phase gathering self.rank && eqb (parent_of (tree_of self.form self.span) self.me self.rank) none && has (children_of (tree_of self.form self.span) self.n self.me self.rank) q }
     {
-        (self.phase == GATHERING) & (row[me as usize] == sets::NONE) & (row[q as usize] == me)
+        (self.rank.phase == GATHERING)
+            & (self.row[self.me as usize] == sets::NONE)
+            & (self.row[q as usize] == self.me)
     }
 
-    // What the death of q means to this rank: `seen` and `table` are the rank and its row with q marked, `gained` the children gained
-    // from q.
-    fn bereave(
-        self,
-        n: u8,
-        form: u8,
-        span: u8,
-        me: u8,
-        row: [u8; 64],
-        q: u8,
-        seen: Rank,
-        table: [u8; 64],
-        gained: u64,
-    ) -> Said
-        requires fresh_row { FreshRow (tree_of form span) n me self row }
-        requires fresh_row_2 { FreshRow (tree_of form span) n me seen table }
-        requires gained_value { gained ≡ meet (children_of (tree_of form span) n me seen) (children (tree_of form span) n self.marks q) }
-        requires q_lt_n { q < n }
-        requires q_value { has self.marks q ≡ false }
-        ensures { result ≡ bereaved (tree_of form span) n me q self seen }
+    // What the death means to a rank that has marked it: that of its parent, of a child, whose children it has gained, or of another.
+    fn mourn(self, parent_died: bool, child_died: bool, gained: u64) -> Said
+        ensures { result ≡ cond parent_died (orphaned (tree_of self.form self.span) self.n self.me self.rank) (cond child_died (saying self.rank (asks gained)) (saying self.rank silent)) }
     {
-        if self.lost_parent(n, form, span, me, row, q) {
-            return seen.orphan(n, form, span, me, table);
+        if parent_died {
+            return self.orphan();
         }
-        if self.lost_child(n, form, span, me, row, q) {
-            return Said {
-                rank: seen,
-                send: Send::ask(gained),
-            };
+        if child_died {
+            return self.rank.saying(Send::ask(gained));
         }
-        seen.still()
+        self.rank.saying(Send::silent())
+    }
+
+    // Waiting, and the parent died: reports to the new parent, or gathers again as the root and asks all children.
+    fn orphan(self) -> Said
+        ensures { result ≡ orphaned (tree_of self.form self.span) self.n self.me self.rank }
+    {
+        let mut r = self.rank;
+        let parent = self.row[self.me as usize];
+        if parent != sets::NONE {
+            return r.saying(r.report(parent));
+        }
+        let children = self.children();
+        r.heard = 0;
+        r.awaited = children;
+        r.phase = GATHERING;
+        r.saying(Send::ask(children))
     }
 
     // The acknowledged set becomes the marks.
-    pub fn acknowledge(mut self, n: u8, form: u8, span: u8, me: u8, row: [u8; 64]) -> Acted
-        requires { FreshRow (tree_of form span) n me self row }
-        ensures { result ≡ acknowledging (tree_of form span) n me self }
+    pub fn acknowledge(mut self) -> Acted
+        ensures { result ≡ acknowledging (tree_of self.form self.span) self.n self.me self.rank }
     {
-        self.acknowledged = self.marks;
-        Acted {
-            rank: self,
-            row,
-            first: Send::silent(),
-            second: Send::silent(),
-            moved: Moved::nobody(),
-        }
+        self.rank.acknowledged = self.rank.marks;
+        self.done(Send::silent())
     }
 }

@@ -1,15 +1,17 @@
 // One rule of one rank in one situation.
 ghost use Rattle.std.specs.Prelude.{◌<◌};
 
-use super::script::Command;
 use super::show::show;
-use rank::{Rank, Triple};
+use rank::{Rank, Seat, Triple};
+use reader::Reader;
 use std::io;
 use std::io::Write;
+use tree::View;
+
+pub type Command = Reader<17>;
 
 fn number(c: Command, k: u8) -> u32 {
-    let numbers = c.numbers;
-    numbers[(k % 17) as usize]
+    (c.numbers[(k % 17) as usize] % 0x1_0000_0000) as u32
 }
 
 fn small(c: Command, k: u8) -> u8 {
@@ -57,28 +59,34 @@ fn act<W: Write>(
     q: u8,
     x: Triple,
 ) -> io::Result<()> {
-    if 64 < n {
-        return Ok(());
-    }
-    if n <= me {
-        return Ok(());
-    }
-    if n <= q {
+    if 64 < n || n <= me || n <= q {
         return Ok(());
     }
     let row = tree::fresh(n, tree::FLAT, 1, before.marks);
-    let mut r = before;
-    r.awaited = sets::minus(
-        tree::children_of(n, tree::FLAT, 1, r.marks, row, me),
-        r.heard,
-    );
+    let view = View {
+        n,
+        form: tree::FLAT,
+        span: 1,
+        marks: before.marks,
+        table: row,
+    };
+    let mut rank = before;
+    rank.awaited = sets::minus(view.children_of(me), rank.heard);
+    let seat = Seat {
+        n,
+        form: tree::FLAT,
+        span: 1,
+        me,
+        rank,
+        row,
+    };
     let a = match rule {
-        b'e' => r.enter(n, tree::FLAT, 1, me, row, x.word),
-        b'u' => r.up(n, tree::FLAT, 1, me, row, q, x),
-        b'd' => r.down(n, tree::FLAT, 1, me, row, x),
-        b'a' => r.ask(n, tree::FLAT, 1, me, row, q),
-        b'k' => r.acknowledge(n, tree::FLAT, 1, me, row),
-        _ => r.notice(n, tree::FLAT, 1, me, row, q),
+        b'e' => seat.enter(x.word),
+        b'u' => seat.up(q, x),
+        b'd' => seat.down(x),
+        b'a' => seat.ask(q),
+        b'k' => seat.acknowledge(),
+        _ => seat.notice(q),
     };
     show(out, a)
 }

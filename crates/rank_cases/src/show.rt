@@ -16,8 +16,7 @@ fn set<W: Write>(out: &mut W, name: &str, w: u64) -> io::Result<()> {
 
 // A triple after its name: its word, its known dead and its acknowledged set.
 fn triple<W: Write>(out: &mut W, name: &str, t: Triple) -> io::Result<()> {
-    let word = t.word;
-    write!(out, "{name}{word}")?;
+    write!(out, "{name}{}", t.word)?;
     set(out, " {", t.known)?;
     set(out, " {", t.acknowledged)
 }
@@ -46,8 +45,7 @@ fn sets_of<W: Write>(out: &mut W, r: Rank) -> io::Result<()> {
 }
 
 fn record<W: Write>(out: &mut W, r: Rank) -> io::Result<()> {
-    let phase = r.phase;
-    write!(out, "  phase {phase}")?;
+    write!(out, "  phase {}", r.phase)?;
     sets_of(out, r)?;
     triple(out, " triple ", r.triple)?;
     triple(out, " result ", r.result)
@@ -57,6 +55,5 @@ pub fn show<W: Write>(out: &mut W, a: Acted) -> io::Result<()> {
     record(out, a.rank)?;
     send(out, "\n  sends ", a.first)?;
     send(out, " then ", a.second)?;
-    let count = a.moved.count;
-    writeln!(out, " moved {count}")
+    writeln!(out, " moved {}", a.moved.count)
 }

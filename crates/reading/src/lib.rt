@@ -8,7 +8,7 @@ use std::io;
 use std::io::Read;
 
 // Reads until the buffer is full or the input ends, and answers how many bytes now stand at the buffer's start. The only error is the reader's, which is
-// handed on; what was read before it stands at the buffer's start.
+// handed on; what was read before it stands at the buffer's start. std's read_exact says nothing of what an error leaves, and read_to_end fills a Vec.
 pub fn read_full<R: Read>(from: &mut R, buffer: &mut [u8]) -> io::Result<usize>
     ensures within { IfOk result (λ n. n ≤ length buffer.new) }
     ensures bytes { IfOk result (λ n. Consumes (R.remaining from.old) (R.remaining from.new) (take n buffer.new)) }

@@ -1,7 +1,7 @@
 -- Refusals 3 to 10 of an event, each a test under document 01's words. The lowest number that applies is given.
 use Rattle.std.specs.Prelude.{ℕ, Bool, cond, not, ◌&&◌, ◌||◌, eqb, leb}
 use Rattle.sets.specs.Sets.{has, only, minus, below}
-use Rattle.tree.specs.Refusals.{accepted, bad_kind, bad_rank, bad_place, dead_rank, entered, living_rank, only_living, living_ends}
+use Rattle.answers.specs.Refusals.{accepted, bad_kind, bad_rank, bad_place, dead_rank, entered, living_rank, only_living, living_ends}
 use Rattle.rank.specs.declared.Rank.{Rank}
 use Rattle.rank.specs.declared.Message.{Message}
 use Rattle.rank.specs.Words.{outside}

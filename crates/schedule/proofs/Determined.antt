@@ -1,15 +1,37 @@
 -- A public contract leaves nothing open: two replies to the same call that meet it are the same, and so is the lent slice at exit.
 -- Assumes nothing.
-use mathlib.Core.Path.{◌≡◌}
+use mathlib.Core.Path.{◌≡◌, refl, sym, ap, ◌∙◌}
+use mathlib.Core.List.{List}
+use Prim.Native.Nat.{ℕ}
 use contract.Lifetimes.{Lfts}
+use Rattle.std.specs.Prelude.{Result, Ok, Err}
 use Rattle.sets.proofs.Laws.Alike.{alike}
-use Rattle.playing.specs.declared.Ran.{Ran}
-use Rattle.playing.proofs.Determined.{ran_alike}
+use Rattle.state.specs.declared.State.{State}
+use Rattle.state.specs.declared.Refused.{Refused}
+use Rattle.state.specs.Starting.{told as start_told}
+use Rattle.state.proofs.Laws.Starting.{told_alike}
+use Rattle.playing.specs.Playing.{Run}
+use Rattle.schedule.specs.Runs.{told}
 use Rattle.schedule.proofs.run.Reads as run
 
--- The answer, the final group with its tables, and the slice.
-pub run_determined : (κs : Lfts 2) (a : _) (t u : Ran) (x y : _) → run.Post κs a t x → run.Post κs a u y → (t ≡ u) × (x.1.0.now ≡ y.1.0.now)
-run_determined κs a t u x y e f = (ran_alike t u (alike e.0 f.0) (alike e.1.0 f.1.0), alike e.1.1 f.1.1)
+-- A reply is known by what it tells.
+reply_told : (t : Result State Refused) (x : List ℕ) → start_told t ≡ record { answer = (told t x).answer; state = (told t x).state }
+reply_told (Ok s) x = refl
+reply_told (Err r) x = refl
+
+answers_of : (t : Result State Refused) (x : List ℕ) → (told t x).answers ≡ x
+answers_of (Ok s) x = refl
+answers_of (Err r) x = refl
+
+reply_alike : (t u : Result State Refused) (x y : List ℕ) → told t x ≡ told u y → t ≡ u
+reply_alike t u x y e = told_alike t u (reply_told t x ∙ ap (λ (z : Run). record { answer = z.answer; state = z.state }) e ∙ sym (reply_told u y))
+
+ran_left : (t u : Result State Refused) (x y : List ℕ) → told t x ≡ told u y → x ≡ y
+ran_left t u x y e = sym (answers_of t x) ∙ ap (λ (z : Run). z.answers) e ∙ answers_of u y
+
+-- The reply with the final group and its tables, and the slice.
+pub run_determined : (κs : Lfts 2) (a : _) (t u : Result State Refused) (x y : _) → run.Post κs a t x → run.Post κs a u y → (t ≡ u) × (x.1.0.now ≡ y.1.0.now)
+run_determined κs a t u x y e f = let s = alike e f in (reply_alike t u _ _ s, ran_left t u _ _ s)
 
 -- The entry point asks nothing of its caller.
 pub run-asks-nothing : (κs : Lfts 2) (a : _) → run.Pre κs a

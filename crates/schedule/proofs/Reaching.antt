@@ -28,24 +28,29 @@ after_first file k = state_after flat (event_at file) (started flat (byte_at fil
 module _ (file out : List ℕ) (z : (run file out).answer ≡ 0) where
   -- The file's size is a right one.
   pub run-begins : (started flat (byte_at file 5) flat_form 1).answer ≡ 0
-  run-begins = run_whole file out ((started flat (byte_at file 5) flat_form 1).answer ≡ 0) z (λ n events w. subst (λ (m : ℕ). (started flat m flat_form 1).answer ≡ 0) w.opens.size_is (started-small flat n flat_form 1 (shape_right n flat_form 1 (flat_shapely n w.opens.size))).0)
+  run-begins =
+      let r = run_whole file out z in
+      subst (λ (m : ℕ). (started flat m flat_form 1).answer ≡ 0) r.1.opens.size_is (started-small flat r.0.n flat_form 1 (shape_right r.0.n flat_form 1 (flat_shapely r.0.n r.1.opens.size))).0
 
-  ran : (C : Type 0) → ((3 * events_in file ≤ length out) → run file out ≡ played flat (event_at file) (events_in file) 0 (started flat (byte_at file 5) flat_form 1).state out → C) → C
-  ran C go =
-      run_whole file out C z
-      (λ n events w. go (subst (λ (t : ℕ). 3 * t ≤ length out) w.opens.events_are w.room)
-      (w.run_is ∙ ap (λ (t : ℕ). played flat (event_at file) t 0 (fresh_state flat n flat_form 1) out) w.opens.events_are
-      ∙ ap (λ (s : State). played flat (event_at file) (events_in file) 0 s out) (sym (started-small flat n flat_form 1 (shape_right n flat_form 1 (flat_shapely n w.opens.size))).1 ∙ ap (λ (m : ℕ). (started flat m flat_form 1).state) w.opens.size_is)))
+  ran : (3 * events_in file ≤ length out) × (run file out ≡ played flat (event_at file) (events_in file) 0 (started flat (byte_at file 5) flat_form 1).state out)
+  ran =
+      let r = run_whole file out z in
+      let n = r.0.n in
+      let w = r.1 in (
+        subst (λ (t : ℕ). 3 * t ≤ length out) w.opens.events_are w.room,
+        w.run_is ∙ ap (λ (t : ℕ). played flat (event_at file) t 0 (fresh_state flat n flat_form 1) out) w.opens.events_are
+            ∙ ap (λ (s : State). played flat (event_at file) (events_in file) 0 s out) (sym (started-small flat n flat_form 1 (shape_right n flat_form 1 (flat_shapely n w.opens.size))).1 ∙ ap (λ (m : ℕ). (started flat m flat_form 1).state) w.opens.size_is),
+      )
 
   -- Its final state is the one after all of the file's events.
   pub run-after : (run file out).state ≡ after_first file (events_in file)
-  run-after = ran ((run file out).state ≡ after_first file (events_in file)) (λ r e. ap (λ (x : Run). x.state) e ∙ after-played flat (event_at file) (started flat (byte_at file 5) flat_form 1).state (events_in file) out)
+  run-after = ap (λ (x : Run). x.state) ran.1 ∙ after-played flat (event_at file) (started flat (byte_at file 5) flat_form 1).state (events_in file) out
 
   -- The three numbers that it writes of the event at place k are answer, sent and moved's count of `event` on the state after the first k events.
   pub run-numbers : (k : ℕ) → k < events_in file → NumbersOf (event flat (after_first file k) (event_at file k)) (run file out).answers k
   run-numbers k l =
-      ran (NumbersOf (event flat (after_first file k) (event_at file k)) (run file out).answers k)
-      (λ r e. subst (λ (x : Run). NumbersOf (event flat (after_first file k) (event_at file k)) x.answers k) (sym e) (numbers-played flat (event_at file) (started flat (byte_at file 5) flat_form 1).state (events_in file) k out r l))
+      subst (λ (x : Run). NumbersOf (event flat (after_first file k) (event_at file k)) x.answers k) (sym ran.1)
+      (numbers-played flat (event_at file) (started flat (byte_at file 5) flat_form 1).state (events_in file) k out ran.0 l)
 
   -- Every state on the way is reached by accepted events,
   pub states-reached : (k : ℕ) → Reaches flat (byte_at file 5) (after_first file k)

@@ -2,6 +2,7 @@
 use mathlib.Core.Path.{◌≡◌}
 use mathlib.Core.Bool.{Bool}
 use Prim.Native.Nat.{ℕ}
+use Rattle.std.proofs.Common.{Option}
 use contract.Lifetimes.{Lfts}
 use Rattle.sets.proofs.Laws.Alike.{alike}
 use Rattle.sets.proofs.member.Reads as member
@@ -37,10 +38,10 @@ minus_determined κs a t u x y e f = alike e f
 pub below_determined : (κs : Lfts 0) (a : _) (t u : ℕ) (x y : _) → below.Post κs a t x → below.Post κs a u y → t ≡ u
 below_determined κs a t u x y e f = alike e f
 
-pub smallest_determined : (κs : Lfts 0) (a : _) (t u : ℕ) (x y : _) → smallest.Post κs a t x → smallest.Post κs a u y → t ≡ u
+pub smallest_determined : (κs : Lfts 0) (a : _) (t u : Option ℕ) (x y : _) → smallest.Post κs a t x → smallest.Post κs a u y → t ≡ u
 smallest_determined κs a t u x y e f = alike e f
 
-pub largest_determined : (κs : Lfts 0) (a : _) (t u : ℕ) (x y : _) → largest.Post κs a t x → largest.Post κs a u y → t ≡ u
+pub largest_determined : (κs : Lfts 0) (a : _) (t u : Option ℕ) (x y : _) → largest.Post κs a t x → largest.Post κs a u y → t ≡ u
 largest_determined κs a t u x y e f = alike e f
 
 pub size_determined : (κs : Lfts 0) (a : _) (t u : ℕ) (x y : _) → size.Post κs a t x → size.Post κs a u y → t ≡ u

@@ -2,6 +2,7 @@
 pub mod Bools
 pub mod Members
 pub mod Searches
+pub mod Found
 pub mod Counts
 pub mod Alike
 pub mod Places

@@ -1,11 +1,15 @@
 -- Sets of ranks. A set is a word, one bit a rank: rank k is a member where bit k is set.
 -- What is said of ranks by a test f, below a bound n, is said once here, for any n; a word's own test is `has w`.
-use Rattle.std.specs.Prelude.{ℕ, zero, suc, ◌-◌, ◌/◌, ◌%◌, ◌^◌, Bool, true, false, cond, ◌&&◌, ◌||◌, List, [], ◌∷◌, ◌++◌, eqb}
+use Rattle.std.specs.Prelude.{ℕ, zero, suc, ◌-◌, ◌/◌, ◌%◌, ◌^◌, Bool, true, false, cond, ◌&&◌, ◌||◌, List, [], ◌∷◌, ◌++◌, Option, None, Some, eqb}
 use Rattle.std.specs.Int.Bits.{bit_and, bit_or, bit_xor}
 
 -- No rank.
 abbrev pub none : ℕ
 none = 255
+
+-- The rank of a search that ends with none where it finds nobody.
+abbrev pub found : ℕ → Option ℕ
+found k = cond (eqb k none) None (Some k)
 
 -- Rank k is a member of the set w.
 unfoldable pub has : ℕ → ℕ → Bool

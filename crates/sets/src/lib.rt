@@ -2,9 +2,9 @@
 #![tactic(auto)]
 
 ghost use Rattle.std.specs.Prelude.{◌≡◌, Bool, cond, ℕ, ◌+◌, ◌*◌, ◌%◌, ◌^◌, ◌<◌, ◌≤◌, eqb, get_or};
-ghost use Rattle.sets.specs.Sets.{add, below, count, has, largest, meet, minus, none, only, set_of, smallest, union};
+ghost use Rattle.sets.specs.Sets.{add, below, count, found, has, largest, meet, minus, none, only, set_of, smallest, union};
 
-// No rank.
+// No rank, in a table.
 pub const NONE: u8 = 255;
 
 // Whether p is a member.
@@ -63,24 +63,24 @@ pub fn below(p: u8) -> u64
     (1u64 << p) - 1
 }
 
-// The smallest member, by the zeros below it; NONE of the empty set.
-pub fn smallest(w: u64) -> u8
-    ensures { result ≡ smallest (has w) 64 none }
+// The smallest member, by the zeros below it.
+pub fn smallest(w: u64) -> Option<u8>
+    ensures { result ≡ found (smallest (has w) 64 none) }
 {
     if w == 0 {
-        return NONE;
+        return None;
     }
-    u64::trailing_zeros(w) as u8
+    Some(u64::trailing_zeros(w) as u8)
 }
 
-// The largest member, by the zeros above it; NONE of the empty set.
-pub fn largest(w: u64) -> u8
-    ensures { result ≡ largest (has w) 64 none }
+// The largest member, by the zeros above it.
+pub fn largest(w: u64) -> Option<u8>
+    ensures { result ≡ found (largest (has w) 64 none) }
 {
     if w == 0 {
-        return NONE;
+        return None;
     }
-    (63 - u64::leading_zeros(w)) as u8
+    Some((63 - u64::leading_zeros(w)) as u8)
 }
 
 // How many members the set has; most sets are empty, and a count of ones takes long.
@@ -107,10 +107,8 @@ fn flags(row: [u8; 64], q: u8) -> [u8; 64]
     ensures { (p : ℕ) → p < 64 → get_or result p 0 ≡ cond (eqb (get_or row p 0) q) (2 ^ (p % 8)) 0 }
 {
     let mut found = [0u8; 64];
-    let mut p: u8 = 0;
-    while p < 64 {
+    for p in 0..64u8 {
         found[p as usize] = flag(row[p as usize], q, p);
-        p += 1;
     }
     found
 }
@@ -122,11 +120,8 @@ fn octet(flags: [u8; 64], k: u8) -> u8
     ensures { (f : ℕ → Bool) → ((j : ℕ) → j < 8 → get_or flags (8 * k + j) 0 ≡ cond (f j) (2 ^ j) 0) → result ≡ set_of f 8 }
 {
     let mut sum: u8 = 0;
-    let mut j: u8 = 0;
-    while j < 8 {
-        let place = 8 * k + j;
-        sum += flags[place as usize];
-        j += 1;
+    for j in 0..8u8 {
+        sum += flags[(8 * k + j) as usize];
     }
     sum
 }

@@ -5,9 +5,10 @@ ghost use Rattle.std.specs.Prelude.{◌≡◌, ◌≤◌};
 ghost use Rattle.tree.specs.Tree.{fresh, row};
 ghost use Rattle.tree.specs.Forms.{tree_of};
 ghost use Rattle.calls.specs.Calls.{misshapen};
-ghost use Rattle.state.specs.States.{joined, zero_rank};
-ghost use Rattle.state.specs.Starting.{empty_state, first_rank, first_row, fresh_state, started};
+ghost use Rattle.state.specs.States.{zero_rank};
+ghost use Rattle.state.specs.Starting.{empty_state, first_rank, first_row, fresh_state, started, told};
 
+use answers::Refusal;
 use rank::{Message, Rank, Triple};
 
 // The group record: its size, the form and the box size of its tree, how many messages are in flight, the dead, the ranks and the messages. The
@@ -30,28 +31,15 @@ pub struct State {
     pub tables: [[u8; 64]; 64],
 }
 
-// The answer of start.
+// What a call that takes a state by value answers when it refuses: why, and the state that it hands back.
 #[derive(Clone, Copy)]
-pub struct Started {
-    pub answer: u32,
+pub struct Refused {
+    pub refusal: Refusal,
     pub state: State,
 }
 
-// The two parts of a state: put together, and the tables taken out.
-pub fn join(group: Group, tables: [[u8; 64]; 64]) -> State
-    ensures { result ≡ joined group tables }
-{
-    State { group, tables }
-}
-
-pub fn tables_of(s: State) -> [[u8; 64]; 64]
-    ensures { result ≡ s.tables }
-{
-    s.tables
-}
-
 // A record past the group.
-fn no_rank() -> Rank
+pub fn no_rank() -> Rank
     ensures { result ≡ zero_rank }
 {
     Rank {
@@ -66,50 +54,38 @@ fn no_rank() -> Rank
     }
 }
 
-// The records of n fresh ranks.
-fn first_ranks(n: u8, form: u8, span: u8, table: [u8; 64]) -> [Rank; 64]
+// The records of n fresh ranks, and their rows.
+fn first_seats(n: u8, form: u8, span: u8, table: [u8; 64]) -> ([Rank; 64], [[u8; 64]; 64])
     requires n_bound { n ≤ 64 }
     requires table_value { table ≡ fresh (tree_of form span) n 0 }
-    ensures { result ≡ row (first_rank (tree_of form span) n) 64 }
+    ensures ranks_value { result.0 ≡ row (first_rank (tree_of form span) n) 64 }
+    ensures tables_value { result.1 ≡ row (first_row (tree_of form span) n) 64 }
 {
     let mut ranks = [no_rank(); 64];
-    let mut i: u8 = 0;
-    while i < n {
-        ranks[i as usize] = Rank::fresh(n, form, span, i, table);
-        i += 1;
-    }
-    ranks
-}
-
-// Their rows.
-fn first_rows(n: u8, form: u8, span: u8, table: [u8; 64]) -> [[u8; 64]; 64]
-    requires n_bound { n ≤ 64 }
-    requires table_value { table ≡ fresh (tree_of form span) n 0 }
-    ensures { result ≡ row (first_row (tree_of form span) n) 64 }
-{
     let mut tables = [[sets::NONE; 64]; 64];
-    let mut i: u8 = 0;
-    while i < n {
+    for i in 0..n {
+        ranks[i as usize] = Rank::fresh(n, form, span, i, table);
         tables[i as usize] = table;
-        i += 1;
     }
-    tables
+    (ranks, tables)
 }
 
-// The group of a refused start.
+// The state of a refused start.
 fn empty_state() -> State
     ensures { result ≡ empty_state }
 {
-    let group = Group {
-        n: 0,
-        form: 0,
-        span: 0,
-        count: 0,
-        dead: 0,
-        ranks: [no_rank(); 64],
-        net: [net::nothing(); 128],
-    };
-    join(group, [[0u8; 64]; 64])
+    State {
+        group: Group {
+            n: 0,
+            form: 0,
+            span: 0,
+            count: 0,
+            dead: 0,
+            ranks: [no_rank(); 64],
+            net: [net::nothing(); 128],
+        },
+        tables: [[0u8; 64]; 64],
+    }
 }
 
 // A group of n fresh ranks.
@@ -118,31 +94,32 @@ fn fresh_state(n: u8, form: u8, span: u8) -> State
     ensures { result ≡ fresh_state (tree_of form span) n form span }
 {
     let table = tree::fresh(n, form, span, 0);
-    let group = Group {
-        n,
-        form,
-        span,
-        count: 0,
-        dead: 0,
-        ranks: first_ranks(n, form, span, table),
-        net: [net::nothing(); 128],
-    };
-    join(group, first_rows(n, form, span, table))
+    let (ranks, tables) = first_seats(n, form, span, table);
+    State {
+        group: Group {
+            n,
+            form,
+            span,
+            count: 0,
+            dead: 0,
+            ranks,
+            net: [net::nothing(); 128],
+        },
+        tables,
+    }
 }
 
-// Entry point: a group of n fresh ranks in a form with a box size, all living, with nothing in flight. Refuses with 1, 50 or 51.
-pub fn start(n: u32, form: u32, span: u32) -> Started
-    ensures { result ≡ started (tree_of form span) n form span }
+// Entry point: a group of n fresh ranks in a form with a box size, all living, with nothing in flight. Refuses with 1, 50 or 51. It stays
+// out of line: a compiler that splits a state into its fields in the caller takes minutes.
+#[inline(never)]
+pub fn start(n: u32, form: u32, span: u32) -> Result<State, Refused>
+    ensures { told result ≡ started (tree_of form span) n form span }
 {
-    let answer = calls::misshapen(n, form, span);
-    if answer != 0 {
-        return Started {
-            answer,
+    if let Err(refusal) = calls::misshapen(n, form, span) {
+        return Err(Refused {
+            refusal,
             state: empty_state(),
-        };
+        });
     }
-    Started {
-        answer,
-        state: fresh_state(n as u8, form as u8, span as u8),
-    }
+    Ok(fresh_state(n as u8, form as u8, span as u8))
 }

@@ -1,68 +1,88 @@
-// Numbers and letters into a lent buffer. Each function writes from a place on and answers the place after its last byte.
+// Numbers, letters and lines onto a page.
 #![tactic(auto)]
 
-ghost use Rattle.std.specs.Prelude.{◌≡◌, ◌++◌, ◌∷◌, [], ◌+◌, ◌<◌, ◌≤◌, length};
-ghost use Rattle.text.specs.Text.{Wrote, decimal, feed, field};
+ghost use Rattle.std.specs.Prelude.{◌++◌, ◌∷◌, [], ◌+◌, ◌*◌, ◌<◌, ◌≤◌, ℕ, length};
+ghost use Rattle.std.specs.Borrow.{MutBor};
+ghost use Rattle.text.specs.Text.{decimal, feed, field, lines};
+ghost use Rattle.text.specs.Pages.{HasRoom, Lines, Puts};
 
-pub fn put_byte(text: &mut [u8], at: usize, byte: u8) -> usize
-    requires { at < length text.old }
-    ensures { Wrote text.old at (byte ∷ []) text.new result }
-{
-    text[at] = byte;
-    at + 1
+// A lent buffer, and the place in it where the next byte goes.
+#[derive(Drop)]
+pub struct Page<'a> {
+    pub text: &'a mut [u8],
+    pub at: usize,
 }
 
-// The other digits first, then the last.
-pub fn put_number(text: &mut [u8], at: usize, x: u32) -> usize
-    requires { at + 10 ≤ length text.old }
-    ensures { Wrote text.old at (decimal x) text.new result }
-{
-    if x < 10 {
-        put_byte(text, at, 48 + x as u8)
-    } else {
-        let last = put_number(text, at, x / 10);
-        put_byte(text, last, 48 + (x % 10) as u8)
+impl<'a> Page<'a> {
+    pub fn put_byte(&mut self, byte: u8)
+        requires { HasRoom self.old 1 }
+        ensures { Puts self.old (byte ∷ []) self.new }
+    {
+        self.text[self.at] = byte;
+        self.at += 1;
     }
-}
 
-// One space, and the number.
-pub fn put_field(text: &mut [u8], at: usize, x: u32) -> usize
-    requires { at + 11 ≤ length text.old }
-    ensures { Wrote text.old at (field x) text.new result }
-{
-    let next = put_byte(text, at, 32);
-    put_number(text, next, x)
-}
-
-// A word's letters, in order.
-pub fn put_letters(text: &mut [u8], at: usize, letters: &[u8]) -> usize
-    requires { at + length letters.now ≤ length text.old }
-    ensures { Wrote text.old at letters.now text.new result }
-{
-    let mut next = at;
-    let mut i: usize = 0;
-    while i < letters.len() {
-        next = put_byte(text, next, letters[i]);
-        i += 1;
+    // A word's letters, in order.
+    pub fn put_letters(&mut self, letters: &[u8])
+        requires { HasRoom self.old (length letters.now) }
+        ensures { Puts self.old letters.now self.new }
+    {
+        let end = self.at + letters.len();
+        let text = &mut *self.text;
+        text[self.at..end].copy_from_slice(letters);
+        self.at = end;
     }
-    next
-}
 
-// A field that ends its line.
-pub fn put_end(text: &mut [u8], at: usize, x: u32) -> usize
-    requires { at + 12 ≤ length text.old }
-    ensures { Wrote text.old at (field x ++ feed) text.new result }
-{
-    let end = put_field(text, at, x);
-    put_byte(text, end, b'\n')
-}
+    // The other digits first, then the last. The formatter's contracts say what a write that succeeds has written, and not that it succeeds,
+    // so that no number that it prints could be promised here.
+    pub fn put_number(&mut self, x: u32)
+        requires { HasRoom self.old 10 }
+        ensures { Puts self.old (decimal x) self.new }
+    {
+        if x >= 10 {
+            self.put_number(x / 10);
+        }
+        self.put_byte(b'0' + (x % 10) as u8);
+    }
 
-// Three fields that end their line.
-pub fn put_three(text: &mut [u8], at: usize, x: u32, y: u32, z: u32) -> usize
-    requires { at + 34 ≤ length text.old }
-    ensures { Wrote text.old at (field x ++ (field y ++ (field z ++ feed))) text.new result }
-{
-    let second = put_field(text, at, x);
-    let third = put_field(text, second, y);
-    put_end(text, third, z)
+    // One space, and the number.
+    pub fn put_field(&mut self, x: u32)
+        requires { HasRoom self.old 11 }
+        ensures { Puts self.old (field x) self.new }
+    {
+        self.put_byte(b' ');
+        self.put_number(x);
+    }
+
+    // A field that ends its line.
+    pub fn put_end(&mut self, x: u32)
+        requires { HasRoom self.old 12 }
+        ensures { Puts self.old (field x ++ feed) self.new }
+    {
+        self.put_field(x);
+        self.put_byte(b'\n');
+    }
+
+    // Three fields that end their line.
+    pub fn put_three(&mut self, x: u32, y: u32, z: u32)
+        requires { HasRoom self.old 34 }
+        ensures { Puts self.old (field x ++ (field y ++ (field z ++ feed))) self.new }
+    {
+        self.put_field(x);
+        self.put_field(y);
+        self.put_end(z);
+    }
+
+    // The lines of the places below n, ascending, each by the function.
+    pub fn put_lines<F: Fn(&mut Page, usize)>(&mut self, n: usize, line: F)
+        ghost of: { Lines }
+        requires room { HasRoom self.old (n * of.most) }
+        requires takes { (page : MutBor Page) (k : ℕ) → k < n → HasRoom page.now of.most → F.pre line page k }
+        requires writes { (page left : MutBor Page) (k : ℕ) → k < n → HasRoom page.now of.most → F.post line page k tt left → Puts page.now (of.line k) left.now }
+        ensures { Puts self.old (lines of.line n) self.new }
+    {
+        for k in 0..n {
+            line(self, k);
+        }
+    }
 }

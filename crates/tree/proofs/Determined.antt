@@ -3,6 +3,7 @@ use mathlib.Core.Path.{◌≡◌}
 use mathlib.Core.Bool.{Bool}
 use mathlib.Core.List.{List}
 use Prim.Native.Nat.{ℕ}
+use Rattle.std.proofs.Common.{Option}
 use contract.Lifetimes.{Lfts}
 use Rattle.sets.proofs.Laws.Alike.{alike}
 use Rattle.tree.specs.declared.Moved.{Moved}
@@ -10,18 +11,18 @@ use Rattle.tree.specs.declared.Mended.{Mended}
 use Rattle.tree.proofs.Moved.nobody.Reads as nobody
 use Rattle.tree.proofs.parent_of.Reads as parent_of
 use Rattle.tree.proofs.fresh.Reads as fresh
-use Rattle.tree.proofs.children_of.Reads as children_of
+use Rattle.tree.proofs.View.children_of.Reads as children_of
 use Rattle.tree.proofs.pointing.Reads as pointing
-use Rattle.tree.proofs.mend.Reads as mend
+use Rattle.tree.proofs.View.mend.Reads as mend
 use Rattle.tree.proofs.gained.Reads as gained
-use Rattle.tree.proofs.mend_below.Reads as mend_below
+use Rattle.tree.proofs.View.mend_below.Reads as mend_below
 use Rattle.tree.proofs.wrong_size.Reads as wrong_size
 use Rattle.tree.proofs.same.Reads as same
 
 pub nobody_determined : (κs : Lfts 0) (a : _) (t u : Moved) (x y : _) → nobody.Post κs a t x → nobody.Post κs a u y → t ≡ u
 nobody_determined κs a t u x y e f = alike e f
 
-pub parent_of_determined : (κs : Lfts 0) (a : _) (t u : ℕ) (x y : _) → parent_of.Post κs a t x → parent_of.Post κs a u y → t ≡ u
+pub parent_of_determined : (κs : Lfts 0) (a : _) (t u : Option ℕ) (x y : _) → parent_of.Post κs a t x → parent_of.Post κs a u y → t ≡ u
 parent_of_determined κs a t u x y e f = alike e f
 
 pub fresh_determined : (κs : Lfts 0) (a : _) (t u : List ℕ) (x y : _) → fresh.Post κs a t x → fresh.Post κs a u y → t ≡ u

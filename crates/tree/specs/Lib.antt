@@ -1,4 +1,3 @@
-pub mod Refusals
 pub mod Tree
 pub mod Forms
 pub mod Relations

@@ -1,18 +1,30 @@
 // Views of the tree: who is whose parent once some ranks are marked dead, and the table of parents, mended at each mark.
 #![tactic(auto)]
 
-ghost use Rattle.std.specs.Prelude.{◌≡◌, cond, ◌+◌, ◌<◌, ◌≤◌, eqb, ltb, get_or};
-ghost use Rattle.sets.specs.Sets.{add, below, has, largest, meet, minus, none, set_of, smallest};
-ghost use Rattle.tree.specs.Tree.{children, flat, fresh, half, nobody, parent, row, sized};
-ghost use Rattle.tree.specs.Forms.{above_in, head_above, in_nest, in_star, tree_of};
+ghost use Rattle.std.specs.Prelude.{◌≡◌, ℕ, cond, ◌+◌, ◌<◌, ◌≤◌, eqb, ltb, get_or};
+ghost use Rattle.sets.specs.Sets.{add, below, found, has, largest, meet, minus, none, set_of, smallest};
+ghost use Rattle.tree.specs.Tree.{ancestors, children, fresh, half, nobody, parent, row, sized};
+ghost use Rattle.tree.specs.Forms.{head_above, in_nest, in_star, tree_of};
 ghost use Rattle.tree.specs.Calls.{and_then, mended, mended_below, same, wrong_size};
 
-// Forms of tree.
+// Forms of tree, as numbers: a caller may hand in any, and start, mark and climb refuse those that are none of these.
 pub const FLAT: u8 = 0;
 
 pub const STAR: u8 = 1;
 
 pub const NESTED: u8 = 2;
+
+// A view: the ranks that are marked dead in a group of n, the form and the box size of its tree, and its table, which is the fresh one.
+#[derive(Clone, Copy)]
+pub struct View {
+    pub n: u8,
+    pub form: u8,
+    pub span: u8,
+    pub marks: u64,
+    pub table: [u8; 64],
+    pub ghost size: { n ≤ 64 },
+    pub ghost fresh: { table ≡ fresh (tree_of form span) n marks },
+}
 
 // The unmarked ranks that moved, and how many; of several marks the union and the sum.
 #[derive(Clone, Copy)]
@@ -92,19 +104,7 @@ fn in_nest(span: u8, p: u8) -> u8
     head + place / 2
 }
 
-// The rank next above p, for any p but 0, in a form with boxes.
-fn above(form: u8, span: u8, p: u8) -> u8
-    requires span_nonzero { 0 < span }
-    requires form_value { (form ≡ 1 → ⊥) → form ≡ 2 }
-    ensures { result ≡ above_in form span p }
-{
-    if form == STAR {
-        return in_star(span, p);
-    }
-    in_nest(span, p)
-}
-
-// The same in the flat form.
+// Next above p in the flat form.
 fn half(p: u8) -> u8
     ensures { result ≡ half p }
 {
@@ -112,40 +112,22 @@ fn half(p: u8) -> u8
 }
 
 // The ancestors of p that a parent is looked for among, the nearest first: as far as the first that is unmarked, and down to the lowest unmarked
-// rank, below which all are marked. In the flat form,
-fn flat_ancestors(marks: u64, p: u8, lowest: u8) -> u64
+// rank, below which all are marked. `above` answers the rank next above one.
+fn ancestors_by<F: Fn(u8) -> u8>(above: F, marks: u64, p: u8, lowest: u8) -> u64
+    requires callable { F.IsAlwaysCallable above }
+    requires smaller { (x r : ℕ) → 0 < x → F.post above x r → r < x }
     requires p_bound { p < 64 }
     requires lowest_value { lowest ≡ smallest (has (minus (below p) marks)) 64 none }
-    ensures { cond (eqb (minus result marks) 0) lowest (largest (has (minus result marks)) 64 none) ≡ parent flat marks p }
+    ensures { (next : ℕ → ℕ) → ((x r : ℕ) → F.post above x r → r ≡ next x) → ((x : ℕ) → 0 < x → next x < x) → cond (eqb (minus result marks) 0) lowest (largest (has (minus result marks)) 64 none) ≡ parent (ancestors next) marks p }
 {
     let mut found: u64 = 0;
-    let mut at = half(p);
+    let mut at = above(p);
     while lowest < at {
         found = sets::with(found, at);
         if !sets::member(marks, at) {
             return found;
         }
-        at = half(at);
-    }
-    found
-}
-
-// and in a form with boxes.
-fn boxed_ancestors(form: u8, span: u8, marks: u64, p: u8, lowest: u8) -> u64
-    requires span_nonzero { 0 < span }
-    requires form_value { (form ≡ 1 → ⊥) → form ≡ 2 }
-    requires p_bound { p < 64 }
-    requires lowest_value { lowest ≡ smallest (has (minus (below p) marks)) 64 none }
-    ensures { cond (eqb (minus result marks) 0) lowest (largest (has (minus result marks)) 64 none) ≡ parent (tree_of form span) marks p }
-{
-    let mut found: u64 = 0;
-    let mut at = above(form, span, p);
-    while lowest < at {
-        found = sets::with(found, at);
-        if !sets::member(marks, at) {
-            return found;
-        }
-        at = above(form, span, at);
+        at = above(at);
     }
     found
 }
@@ -157,24 +139,22 @@ fn ancestors(form: u8, span: u8, marks: u64, p: u8, lowest: u8) -> u64
     requires lowest_value { lowest ≡ smallest (has (minus (below p) marks)) 64 none }
     ensures { cond (eqb (minus result marks) 0) lowest (largest (has (minus result marks)) 64 none) ≡ parent (tree_of form span) marks p }
 {
-    if (form != STAR) & (form != NESTED) {
-        return flat_ancestors(marks, p, lowest);
+    match form {
+        STAR => ancestors_by(|q| in_star(span, q), marks, p, lowest),
+        NESTED => ancestors_by(|q| in_nest(span, q), marks, p, lowest),
+        _ => ancestors_by(half, marks, p, lowest),
     }
-    boxed_ancestors(form, span, marks, p, lowest)
 }
 
-// The parent of p: the nearest unmarked ancestor, else the lowest unmarked rank below p, else NONE.
-pub fn parent_of(form: u8, span: u8, marks: u64, p: u8) -> u8
+// The parent of p: the nearest unmarked ancestor, else the lowest unmarked rank below p.
+pub fn parent_of(form: u8, span: u8, marks: u64, p: u8) -> Option<u8>
     requires span_nonzero { 0 < span }
     requires p_bound { p < 64 }
-    ensures { result ≡ parent (tree_of form span) marks p }
+    ensures { result ≡ found (parent (tree_of form span) marks p) }
 {
-    let lowest = sets::smallest(sets::minus(sets::below(p), marks));
+    let lowest = sets::smallest(sets::minus(sets::below(p), marks))?;
     let near = sets::minus(ancestors(form, span, marks, p, lowest), marks);
-    if near != 0 {
-        return sets::largest(near);
-    }
-    lowest
+    Some(sets::largest(near).unwrap_or(lowest))
 }
 
 // The whole table of a view, worked out from nothing.
@@ -184,22 +164,10 @@ pub fn fresh(n: u8, form: u8, span: u8, marks: u64) -> [u8; 64]
     ensures { result ≡ fresh (tree_of form span) n marks }
 {
     let mut table = [sets::NONE; 64];
-    let mut p: u8 = 0;
-    while p < n {
-        table[p as usize] = parent_of(form, span, marks, p);
-        p += 1;
+    for p in 0..n {
+        table[p as usize] = parent_of(form, span, marks, p).unwrap_or(sets::NONE);
     }
     table
-}
-
-// The children of p, read off the table.
-pub fn children_of(n: u8, form: u8, span: u8, marks: u64, table: [u8; 64], p: u8) -> u64
-    requires n_bound { n ≤ 64 }
-    requires p_bound { p < 64 }
-    requires table_value { table ≡ fresh (tree_of form span) n marks }
-    ensures { result ≡ children (tree_of form span) n marks p }
-{
-    sets::minus(sets::places(table, p), marks)
 }
 
 // Those of a set whose entry in the table is q; most sets are empty.
@@ -222,14 +190,13 @@ fn handed(entry: u8, q: u8, to: u8) -> u8
     entry
 }
 
-// All that reported to q report to `up`.
-fn hand_over(mut table: [u8; 64], q: u8, up: u8) -> [u8; 64]
-    ensures { result ≡ row (λ p. cond (eqb (get_or table p 0) q) up (get_or table p 0)) 64 }
+// Each entry that is q becomes what `to` answers at its place.
+fn hand_over<F: Fn(u8) -> u8>(mut table: [u8; 64], q: u8, to: F) -> [u8; 64]
+    requires { F.IsAlwaysCallable to }
+    ensures { (f : ℕ → ℕ) → ((p r : ℕ) → F.post to p r → r ≡ f p) → result ≡ row (λ p. cond (eqb (get_or table p 0) q) (f p) (get_or table p 0)) 64 }
 {
-    let mut p: u8 = 0;
-    while p < 64 {
-        table[p as usize] = handed(table[p as usize], q, up);
-        p += 1;
+    for p in 0..64u8 {
+        table[p as usize] = handed(table[p as usize], q, to(p));
     }
     table
 }
@@ -244,61 +211,88 @@ fn led(low: u8, p: u8) -> u8
     sets::NONE
 }
 
-// All that reported to q, the root, report to `low`, the next one.
-fn crown(mut table: [u8; 64], q: u8, low: u8) -> [u8; 64]
-    ensures { result ≡ row (λ p. cond (eqb (get_or table p 0) q) (cond (ltb low p) low none) (get_or table p 0)) 64 }
-{
-    let mut p: u8 = 0;
-    while p < 64 {
-        table[p as usize] = handed(table[p as usize], q, led(low, p));
-        p += 1;
+impl View {
+    // The children of p, read off the table.
+    pub fn children_of(self, p: u8) -> u64
+        requires { p < 64 }
+        ensures { result ≡ children (tree_of self.form self.span) self.n self.marks p }
+    {
+        sets::minus(sets::places(self.table, p), self.marks)
     }
-    table
-}
 
-// The table once q is marked: the links that ended at q end at its heir, its parent or, where it had none, the lowest unmarked rank.
-fn relink(n: u8, form: u8, span: u8, marks: u64, table: [u8; 64], q: u8, after: u64) -> [u8; 64]
-    requires n_bound { n ≤ 64 }
-    requires q_lt_n { q < n }
-    requires table_value { table ≡ fresh (tree_of form span) n marks }
-    requires after_value { after ≡ add marks q }
-    ensures { result ≡ fresh (tree_of form span) n after }
-{
-    let up = table[q as usize];
-    if up != sets::NONE {
-        return hand_over(table, q, up);
+    // The table once q is marked: the links that ended at q end at its heir, its parent or, where it had none, the lowest unmarked rank.
+    fn relink(self, q: u8, after: u64) -> [u8; 64]
+        requires q_lt_n { q < self.n }
+        requires after_value { after ≡ add self.marks q }
+        ensures { result ≡ fresh (tree_of self.form self.span) self.n after }
+    {
+        let up = self.table[q as usize];
+        if up != sets::NONE {
+            return hand_over(self.table, q, |_| up);
+        }
+        let low = sets::smallest(sets::minus(sets::below(64), after)).unwrap_or(sets::NONE);
+        hand_over(self.table, q, |p| led(low, p))
     }
-    let low = sets::smallest(sets::minus(sets::below(64), after));
-    crown(table, q, low)
-}
 
-// Marks q and mends the table: only entries that pointed at q change.
-pub fn mend(n: u8, form: u8, span: u8, marks: u64, table: [u8; 64], q: u8) -> Mended
-    requires n_bound { n ≤ 64 }
-    requires q_lt_n { q < n }
-    requires table_value { table ≡ fresh (tree_of form span) n marks }
-    ensures { result ≡ mended (tree_of form span) n marks q }
-{
-    if sets::member(marks, q) {
-        return Mended {
+    // Marks q and mends the table: only entries that pointed at q change.
+    pub fn mend(self, q: u8) -> Mended
+        requires { q < self.n }
+        ensures { result ≡ mended (tree_of self.form self.span) self.n self.marks q }
+    {
+        let marks = self.marks;
+        let table = self.table;
+        if sets::member(marks, q) {
+            return Mended {
+                marks,
+                table,
+                moved: Moved::nobody(),
+            };
+        }
+        let after = sets::with(marks, q);
+        let changed = sets::places(table, q);
+        if changed == 0 {
+            return Mended {
+                marks: after,
+                table,
+                moved: Moved::nobody(),
+            };
+        }
+        Mended {
+            marks: after,
+            table: self.relink(q, after),
+            moved: Moved::sized(sets::minus(changed, after)),
+        }
+    }
+
+    // Marks every rank below q, ascending; moved is the union and the sum over the marks.
+    pub fn mend_below(self, q: u8) -> Mended
+        requires { q ≤ self.n }
+        ensures { result ≡ mended_below (tree_of self.form self.span) self.n self.marks q }
+    {
+        let mut marks = self.marks;
+        let mut table = self.table;
+        let mut moved = Moved::nobody();
+        for k in 0..q {
+            if sets::member(marks, k) {
+                continue;
+            }
+            let view = View {
+                n: self.n,
+                form: self.form,
+                span: self.span,
+                marks,
+                table,
+            };
+            let next = view.mend(k);
+            marks = next.marks;
+            table = next.table;
+            moved = moved.and_then(next.moved);
+        }
+        Mended {
             marks,
             table,
-            moved: Moved::nobody(),
-        };
-    }
-    let after = sets::with(marks, q);
-    let changed = sets::places(table, q);
-    if changed == 0 {
-        return Mended {
-            marks: after,
-            table,
-            moved: Moved::nobody(),
-        };
-    }
-    Mended {
-        marks: after,
-        table: relink(n, form, span, marks, table, q, after),
-        moved: Moved::sized(sets::minus(changed, after)),
+            moved,
+        }
     }
 }
 
@@ -320,42 +314,13 @@ pub fn gained(
     requires moved_value { moved ≡ (mended (tree_of form span) n marks q).moved.ranks }
     ensures { result ≡ meet moved (set_of (λ c. eqb (get_or table c 0) p) 64) }
 {
-    if moved == 0 {
+    let Some(last) = sets::largest(moved) else {
         return 0;
-    }
-    let last = sets::largest(moved);
+    };
     if table[last as usize] != p {
         return 0;
     }
     sets::minus(moved, sets::only(p))
-}
-
-// Marks every rank below q, ascending; moved is the union and the sum over the marks.
-pub fn mend_below(n: u8, form: u8, span: u8, mut marks: u64, mut table: [u8; 64], q: u8) -> Mended
-    requires n_bound { n ≤ 64 }
-    requires q_le_n { q ≤ n }
-    requires table_value { table ≡ fresh (tree_of form span) n marks }
-    ensures { result ≡ mended_below (tree_of form span) n marks q }
-{
-    let mut moved = Moved::nobody();
-    let mut k: u8 = 0;
-    while k < q {
-        if sets::member(marks, k) {
-            k += 1;
-            continue;
-        }
-        let next = mend(n, form, span, marks, table, k);
-        let more = next.moved;
-        marks = next.marks;
-        table = next.table;
-        moved = moved.and_then(more);
-        k += 1;
-    }
-    Mended {
-        marks,
-        table,
-        moved,
-    }
 }
 
 // Whether a size, of a group or of a box, is not 1 to 64.
@@ -369,12 +334,5 @@ pub fn wrong_size(n: u32) -> bool
 pub fn same(a: [u8; 64], b: [u8; 64]) -> bool
     ensures { result ≡ same a b }
 {
-    let mut p: usize = 0;
-    while p < 64 {
-        if a[p] != b[p] {
-            return false;
-        }
-        p += 1;
-    }
-    true
+    a == b
 }

@@ -1,51 +1,52 @@
-// What a case prints: `climb NUMBER RANK LINKS`, `mark NUMBER MARKS COUNT T0 .. T63`, or for a mark asked who moved `who NUMBER COUNT RANKS`.
-use super::script::Reader;
-use calls::{Climbed, Marked};
+// A case is a line: a word, of which the first letter counts, and numbers with a space before each:
+//   climb N FORM BOX MARKS RANK ALLOWANCE
+//   mark N FORM BOX MARKS RANK T0 .. T63
+//   who N FORM BOX MARKS RANK T0 .. T63
+// It prints `climb NUMBER RANK LINKS`, `mark NUMBER MARKS COUNT T0 .. T63`, or for a mark asked who moved `who NUMBER COUNT RANKS`.
+use answers::Refusal;
+use calls::{Climbed, NotClimbed};
+use reader::Reader;
 use std::io;
 use std::io::Write;
+use tree::Mended;
 
-fn number(numbers: [u64; 69], k: u8) -> u64 {
-    numbers[(k % 69) as usize]
+pub type Line = Reader<69>;
+
+fn small(n: u64) -> u32 {
+    (n % 0x1_0000_0000) as u32
 }
 
-fn small(numbers: [u64; 69], k: u8) -> u32 {
-    (number(numbers, k) % 0x1_0000_0000) as u32
-}
-
-fn climbed<W: Write>(out: &mut W, number: u64, rank: u8, links: u32) -> io::Result<()> {
+fn climbed<W: Write>(out: &mut W, number: u32, rank: u8, links: u32) -> io::Result<()> {
     writeln!(out, "climb {number} {rank} {links}")
 }
 
-// The number of each answer, its rank and its links.
-fn told<W: Write>(out: &mut W, c: Climbed) -> io::Result<()> {
-    match c {
-        Climbed::Root(rank, links) => climbed(out, 0, rank, links),
-        Climbed::Short(rank, links) => climbed(out, 12, rank, links),
-        Climbed::WrongSize => climbed(out, 1, sets::NONE, 0),
-        Climbed::WrongBox => climbed(out, 50, sets::NONE, 0),
-        Climbed::WrongForm => climbed(out, 51, sets::NONE, 0),
-        Climbed::WrongRank => climbed(out, 4, sets::NONE, 0),
-        Climbed::FromMarked(rank) => climbed(out, 6, rank, 0),
+// The number of each reply, its rank and its links.
+fn told<W: Write>(out: &mut W, reply: Result<Climbed, NotClimbed>) -> io::Result<()> {
+    match reply {
+        Ok(root) => climbed(out, 0, root.rank, root.links),
+        Err(NotClimbed::Short(at)) => climbed(out, Refusal::TooShort.number(), at.rank, at.links),
+        Err(NotClimbed::FromMarked(rank)) => climbed(out, Refusal::DeadRank.number(), rank, 0),
+        Err(NotClimbed::Refused(refusal)) => climbed(out, refusal.number(), sets::NONE, 0),
     }
 }
 
 fn climb<W: Write>(out: &mut W, numbers: [u64; 69]) -> io::Result<()> {
-    let c = calls::climb(
-        small(numbers, 0),
-        small(numbers, 1),
-        small(numbers, 2),
-        number(numbers, 3),
-        small(numbers, 4),
-        small(numbers, 5),
+    let reply = calls::climb(
+        small(numbers[0]),
+        small(numbers[1]),
+        small(numbers[2]),
+        numbers[3],
+        small(numbers[4]),
+        small(numbers[5]),
     );
-    told(out, c)
+    told(out, reply)
 }
 
 // The table that stands after a mark's first five numbers.
 fn table_of(numbers: [u64; 69]) -> [u8; 64] {
     let mut table = [0u8; 64];
-    for p in 0..64u8 {
-        table[p as usize] = (number(numbers, p + 5) % 256) as u8;
+    for p in 0..64 {
+        table[p] = (numbers[p + 5] % 256) as u8;
     }
     table
 }
@@ -57,39 +58,44 @@ fn entries<W: Write>(out: &mut W, table: [u8; 64]) -> io::Result<()> {
     Ok(())
 }
 
-fn mark(numbers: [u64; 69]) -> Marked {
+fn mark(numbers: [u64; 69]) -> Result<Mended, Refusal> {
     calls::mark(
-        small(numbers, 0),
-        small(numbers, 1),
-        small(numbers, 2),
-        number(numbers, 3),
+        small(numbers[0]),
+        small(numbers[1]),
+        small(numbers[2]),
+        numbers[3],
         table_of(numbers),
-        small(numbers, 4),
+        small(numbers[4]),
     )
 }
 
-fn marked<W: Write>(out: &mut W, m: Marked) -> io::Result<()> {
-    let answer = m.answer;
-    let marks = m.marks;
-    let count = m.moved.count;
-    write!(out, "mark {answer} {marks} {count}")?;
-    entries(out, m.table)?;
+// A refused mark leaves the view as it was handed in.
+fn marked<W: Write>(out: &mut W, numbers: [u64; 69]) -> io::Result<()> {
+    match mark(numbers) {
+        Ok(m) => {
+            write!(out, "mark 0 {} {}", m.marks, m.moved.count)?;
+            entries(out, m.table)?;
+        }
+        Err(refusal) => {
+            write!(out, "mark {} {} 0", refusal.number(), numbers[3])?;
+            entries(out, table_of(numbers))?;
+        }
+    }
     writeln!(out)
 }
 
-fn who<W: Write>(out: &mut W, m: Marked) -> io::Result<()> {
-    let answer = m.answer;
-    let count = m.moved.count;
-    let ranks = m.moved.ranks;
-    writeln!(out, "who {answer} {count} {ranks}")
+fn who<W: Write>(out: &mut W, numbers: [u64; 69]) -> io::Result<()> {
+    match mark(numbers) {
+        Ok(m) => writeln!(out, "who 0 {} {}", m.moved.count, m.moved.ranks),
+        Err(refusal) => writeln!(out, "who {} 0 0", refusal.number()),
+    }
 }
 
-pub fn answer<W: Write>(out: &mut W, r: Reader) -> io::Result<()> {
-    let numbers = r.numbers;
-    match r.letter {
-        b'c' => climb(out, numbers),
-        b'm' => marked(out, mark(numbers)),
-        b'w' => who(out, mark(numbers)),
+pub fn answer<W: Write>(out: &mut W, line: Line) -> io::Result<()> {
+    match line.letter {
+        b'c' => climb(out, line.numbers),
+        b'm' => marked(out, line.numbers),
+        b'w' => who(out, line.numbers),
         _ => Ok(()),
     }
 }

@@ -2,23 +2,20 @@
 // refusal, in one write.
 #![tactic(auto)]
 
+use printing::{ANSWERS, FILE};
 use std::io;
 use std::io::Write;
-
-// One byte more than the longest file has, so that a longer one is seen.
-const FILE: usize = 36871;
-
-// Three numbers for each of 4,096 events.
-const ANSWERS: usize = 12288;
 
 // 64 pictures.
 const TEXT: usize = 214528;
 
+// The steps of printing::print. One function for both would take the report as a closure, and ask of it, for all lent buffers, what of them it may be
+// called on and what it writes: more to read than these lines.
 fn main(rt: HostRuntime) -> io::Result<()> {
     let mut file = [0u8; FILE];
     let mut answers = [0u32; ANSWERS];
     let mut text = [0u8; TEXT];
     let got = reading::read_full(&mut rt.stdin(), &mut file)?;
-    let end = drawing::report(&file, got, &mut answers, &mut text);
+    let end = drawing::report(&file[..got], &mut answers, &mut text);
     rt.stdout().write_all(&text[..end])
 }

@@ -1,6 +1,6 @@
 -- A batch along its code: its own checks, then size and order once for all events. Assumes nothing.
 use mathlib.Core.Path.{◌≡◌, refl, sym, ap, ◌∙◌}
-use mathlib.Core.Bool.{Bool, true, false, not}
+use mathlib.Core.Bool.{Bool, true, false}
 use mathlib.Core.List.{List}
 use Prim.Native.Nat.{ℕ, ◌*◌, ◌/◌, ◌%◌, ◌≤◌, ◌<◌}
 use lib.ListN.{length}
@@ -12,7 +12,7 @@ use Rattle.group.specs.Events.{refused}
 use Rattle.group.proofs.Laws.Events.{event_wrong_size, event_disordered}
 use Rattle.playing.specs.Playing.{Run, event_in, played, spelt}
 use Rattle.playing.proofs.Laws.Playing.{played-refused, played-answers, played-spelt}
-use Rattle.batches.specs.Batches.{events_of, uneven, too_short, refused_batch, batch, refused_each}
+use Rattle.batches.specs.Batches.{refused_batch, batch, refused_each}
 
 -- ---- size and order, once
 
@@ -24,7 +24,7 @@ pub each_wrong_size : (anc : ℕ → ℕ) (numbers : List ℕ) (total : ℕ) (s 
 each_wrong_size anc numbers total s out o t e f g =
     parts_of (played anc (event_in numbers) total 0 s out) s o (refused_each 1 total out) (played-refused anc (event_in numbers) 1 s (λ ev. sym (event_wrong_size anc s ev t (refused 1 s) e f refl)) total out) g
 
-pub each_disordered : (anc : ℕ → ℕ) (numbers : List ℕ) (total : ℕ) (s : State) (out o : List ℕ) (t u : Bool) → t ≡ wrong_size s.group.n → t ≡ false → u ≡ in_order anc s → not u ≡ true → o ≡ refused_each 2 total out
+pub each_disordered : (anc : ℕ → ℕ) (numbers : List ℕ) (total : ℕ) (s : State) (out o : List ℕ) (t u : Bool) → t ≡ wrong_size s.group.n → t ≡ false → u ≡ in_order anc s → u ≡ false → o ≡ refused_each 2 total out
     → (s ≡ (played anc (event_in numbers) total 0 s out).state) × (o ≡ (played anc (event_in numbers) total 0 s out).answers)
 each_disordered anc numbers total s out o t u e f g h i =
     parts_of (played anc (event_in numbers) total 0 s out) s o (refused_each 2 total out) (played-refused anc (event_in numbers) 2 s (λ ev. sym (event_disordered anc s ev t u (refused 2 s) e f g h refl)) total out) i
@@ -45,18 +45,18 @@ reply_of anc numbers out v s r a x e f g h = rw e (f, (g, h))
 
 pub batch-uneven : (anc : ℕ → ℕ) (numbers out : List ℕ) (s : State) → (length numbers % 3 ≡ 0 → ⊥)
     → (40 ≡ (batch anc numbers out s).answer) × ((s ≡ (batch anc numbers out s).state) × (out ≡ (batch anc numbers out s).answers))
-unfolding batch uneven refused_batch
+unfolding batch refused_batch
 batch-uneven anc numbers out s d = reply_of anc numbers out out s s 40 (refused_batch 40 out s) (rw (ne_eqb (length numbers % 3) 0 d)) refl refl refl
 
 pub batch_short : (anc : ℕ → ℕ) (numbers out : List ℕ) (s : State) → length numbers % 3 ≡ 0 → length out < 3 * (length numbers / 3)
     → (41 ≡ (batch anc numbers out s).answer) × ((s ≡ (batch anc numbers out s).state) × (out ≡ (batch anc numbers out s).answers))
-unfolding batch uneven too_short events_of refused_batch
+unfolding batch refused_batch
 batch_short anc numbers out s d l = reply_of anc numbers out out s s 41 (refused_batch 41 out s) (rw (eq-eqb (length numbers % 3) 0 d, lt-ltb (length out) (3 * (length numbers / 3)) l)) refl refl refl
 
 pub batch_taken : (anc : ℕ → ℕ) (numbers out v : List ℕ) (s r : State) → length numbers % 3 ≡ 0 → 3 * (length numbers / 3) ≤ length out
     → r ≡ (played anc (event_in numbers) (length numbers / 3) 0 s out).state → v ≡ (played anc (event_in numbers) (length numbers / 3) 0 s out).answers
     → (0 ≡ (batch anc numbers out s).answer) × ((r ≡ (batch anc numbers out s).state) × (v ≡ (batch anc numbers out s).answers))
-unfolding batch uneven too_short events_of
+unfolding batch
 batch_taken anc numbers out v s r d l e f =
     reply_of anc numbers out v s r 0 (played anc (event_in numbers) (length numbers / 3) 0 s out)
     (rw (eq-eqb (length numbers % 3) 0 d, le-ltb (length out) (3 * (length numbers / 3)) l)) (sym (played-answers anc (event_in numbers) (length numbers / 3) 0 s out)) e f

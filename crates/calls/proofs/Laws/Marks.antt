@@ -9,12 +9,11 @@ use borrow.Author.Tests.{eqb-true, eqb-false, eq-eqb, ltb-true, lt-ltb, not-fals
 use Rattle.sets.specs.Sets.{has, add, minus, below}
 use Rattle.sets.proofs.Laws.Bools.{clash, or_neither}
 use Rattle.sets.proofs.Laws.Members.{has-zero, has-below, has-below-lt, minus_l, minus_r, minus-not, none_in}
-use Rattle.tree.specs.Refusals.{accepted, not_in_order, bad_rank}
+use Rattle.answers.specs.Refusals.{accepted, not_in_order, bad_rank}
 use Rattle.tree.specs.Tree.{fresh, moved}
 use Rattle.tree.specs.Calls.{same}
-use Rattle.calls.specs.Calls.{misshapen, wrong_view, mark_refused, marked}
+use Rattle.calls.specs.Calls.{Marked, misshapen, wrong_view, mark_refused, marked}
 use Rattle.tree.specs.Forms.{tree_of}
-use Rattle.calls.specs.declared.Marked.{Marked}
 use Rattle.tree.proofs.Laws.Rows.{same-eq, same_refl}
 use Rattle.calls.proofs.Laws.Shapes.{Shapely, shapely, shape_right}
 

@@ -1,13 +1,18 @@
 -- Size, form and box size: what the check of them finds. Assumes nothing.
-use mathlib.Core.Path.{◌≡◌, refl, sym, ◌∙◌}
+use mathlib.Core.Path.{◌≡◌, refl, sym, ap}
 use mathlib.Core.Bool.{Bool, true, false, cond}
 use Prim.Native.Nat.{ℕ, ◌≤◌, ◌<◌}
 use native.Mathlib.Omega.{arith}
 use mir.Syntax.{w8}
 use mir.Val.{Fits}
-use lib.Dec.{ltb}
-use borrow.Author.Tests.{ltb-false, le-ltb}
-use Rattle.tree.specs.Refusals.{accepted, bad_size, bad_box, bad_form}
+use lib.Dec.{eqb, ltb}
+use borrow.Author.Tests.{ltb-false, le-ltb, eq-eqb}
+use Rattle.std.proofs.Common.{Result, Ok, Err}
+use Rattle.sets.proofs.Laws.Bools.{clash}
+use Rattle.answers.specs.declared.Refusal.{Refusal}
+use Rattle.answers.specs.Answers.{number, answer_of}
+use Rattle.answers.proofs.Laws.Numbers.{number-not_0, number-one_to_one}
+use Rattle.answers.specs.Refusals.{accepted, bad_size, bad_box, bad_form}
 use Rattle.tree.specs.Forms.{flat_form}
 use Rattle.tree.specs.Calls.{wrong_size}
 use Rattle.tree.proofs.Laws.Calls.{size_none, size-le, size_pos, size_right}
@@ -49,34 +54,34 @@ both_right n form x y e f = rw (e, f)
 pub flat_shapely : (n : ℕ) → wrong_size n ≡ false → Shapely n flat_form 1
 flat_shapely n e = record { some = size_pos n e; small = size-le n (wrong_size n) refl e; boxed = omega arith; box_small = omega arith; known = omega arith }
 
--- along the code: once k, the number found, is 0
-module _ (n form span k : ℕ) (e : k ≡ misshapen n form span) (z : k ≡ 0) where
+-- along the code, once the check has answered 0
+pub shape-zero : (n form span : ℕ) → 0 ≡ misshapen n form span → misshapen n form span ≡ 0
+shape-zero n form span e = sym e
+
+module _ (n form span : ℕ) (e : 0 ≡ misshapen n form span) where
   found : Shapely n form span
-  found = shapely n form span (sym e ∙ z)
+  found = shapely n form span (sym e)
 
-pub shape-zero : (n form span k : ℕ) → k ≡ misshapen n form span → k ≡ 0 → misshapen n form span ≡ 0
-shape-zero n form span k e z = sym e ∙ z
+  pub shape-le : n ≤ 64
+  shape-le = found.small
 
-pub shape-le : (n form span k : ℕ) → k ≡ misshapen n form span → k ≡ 0 → n ≤ 64
-shape-le n form span k e z = (found n form span k e z).small
+  pub box_pos : 0 < span
+  box_pos = found.boxed
 
-pub box_pos : (n form span k : ℕ) → k ≡ misshapen n form span → k ≡ 0 → 0 < span
-box_pos n form span k e z = (found n form span k e z).boxed
+  pub shape_fits : Fits w8 n
+  shape_fits = record { fits = omega (arith, found.small) }
 
-pub shape_fits : (n form span k : ℕ) → k ≡ misshapen n form span → k ≡ 0 → Fits w8 n
-shape_fits n form span k e z = record { fits = omega (arith, (found n form span k e z).small) }
+  pub form_fits : Fits w8 form
+  form_fits = record { fits = omega (arith, found.known) }
 
-pub form_fits : (n form span k : ℕ) → k ≡ misshapen n form span → k ≡ 0 → Fits w8 form
-form_fits n form span k e z = record { fits = omega (arith, (found n form span k e z).known) }
+  pub box_fits : Fits w8 span
+  box_fits = record { fits = omega (arith, found.box_small) }
 
-pub box_fits : (n form span k : ℕ) → k ≡ misshapen n form span → k ≡ 0 → Fits w8 span
-box_fits n form span k e z = record { fits = omega (arith, (found n form span k e z).box_small) }
+  pub rank_fits : (p : ℕ) → p < n → Fits w8 p
+  rank_fits p l = record { fits = omega (arith, found.small) }
 
-pub rank_fits : (n form span k p : ℕ) → k ≡ misshapen n form span → k ≡ 0 → p < n → Fits w8 p
-rank_fits n form span k p e z l = record { fits = omega (arith, (found n form span k e z).small) }
-
-pub rank_lt : (n form span k p : ℕ) → k ≡ misshapen n form span → k ≡ 0 → p < n → p < 64
-rank_lt n form span k p e z l = omega (arith, (found n form span k e z).small)
+  pub rank_lt : (p : ℕ) → p < n → p < 64
+  rank_lt p l = omega (arith, found.small)
 
 -- the same where it is known to be 0
 pub view-le : (n form span : ℕ) → misshapen n form span ≡ 0 → n ≤ 64
@@ -88,19 +93,9 @@ view_boxed n form span e = (shapely n form span e).boxed
 pub view_rank_fits : (n form span q : ℕ) → misshapen n form span ≡ 0 → q < n → Fits w8 q
 view_rank_fits n form span q e l = record { fits = omega (arith, (shapely n form span e).small) }
 
--- which number it is
-pub size_number : (n form span : ℕ) (b : Bool) → b ≡ wrong_size n → b ≡ true → 1 ≡ misshapen n form span
-unfolding misshapen
-size_number n form span b e f = rw (sym e ∙ f)
-
-pub box_number : (n form span : ℕ) (b c : Bool) → b ≡ wrong_size n → b ≡ false → c ≡ wrong_size span → c ≡ true → 50 ≡ misshapen n form span
-unfolding misshapen
-box_number n form span b c e f g h = rw (sym e ∙ f, sym g ∙ h)
-
-pub form_number : (n form span : ℕ) (b c : Bool) → b ≡ wrong_size n → b ≡ false → c ≡ wrong_size span → c ≡ false → ltb 2 form ≡ true → 51 ≡ misshapen n form span
-unfolding misshapen
-form_number n form span b c e f g h l = rw (sym e ∙ f, sym g ∙ h, l)
-
-pub no_number : (n form span : ℕ) (b c : Bool) → b ≡ wrong_size n → b ≡ false → c ≡ wrong_size span → c ≡ false → ltb 2 form ≡ false → 0 ≡ misshapen n form span
-unfolding misshapen
-no_number n form span b c e f g h l = rw (sym e ∙ f, sym g ∙ h, l)
+-- an answer is known by its number
+pub answer_determines : (a b : Result (Unit {0}) Refusal) → answer_of a ≡ answer_of b → a ≡ b
+answer_determines (Ok _) (Ok _) e = refl
+answer_determines (Ok _) (Err y) e = absurd (clash (eqb (number y) 0) (eq-eqb (number y) 0 (sym e)) (number-not_0 y))
+answer_determines (Err x) (Ok _) e = absurd (clash (eqb (number x) 0) (eq-eqb (number x) 0 e) (number-not_0 x))
+answer_determines (Err x) (Err y) e = ap (λ (z : Refusal). Err z) (number-one_to_one x y e)

@@ -1,6 +1,7 @@
--- `tree::mark_view` meets its contract: at each return the tests on the way pick the definition's case. Assumes nothing.
-use Rattle.tree.proofs.Laws.Calls.{checked_fresh}
-use Rattle.calls.proofs.Laws.Shapes.{view-le, view_boxed, view_rank_fits}
+-- `calls::mark_view` meets its contract: at each return the tests on the way pick the definition's case. Assumes nothing.
+use mathlib.Core.Path.{sym, ◌∙◌}
+use Rattle.tree.proofs.Laws.Rows.{same-eq}
+use Rattle.calls.proofs.Laws.Shapes.{view-le, view_boxed}
 use Rattle.calls.proofs.Laws.Calls.{mark-outside, mark_stale, mark_wrong_rank, mark-accepted}
 use Rattle.calls.proofs.mark_view.Goals as goal
 
@@ -22,14 +23,11 @@ returns-then-not-same c = search mark_stale
 pub returns-then-n-q : goal.returns-then-n-q
 returns-then-n-q c = search mark_wrong_rank
 
-pub overflow_cast-q : goal.overflow_cast-q
-overflow_cast-q c = search view_rank_fits
+pub invariant_of-view-clause-size : goal.invariant_of-view-clause-size
+invariant_of-view-clause-size c = search view-le
 
-pub mend-m-requires-clause-n_bound : goal.mend-m-requires-clause-n_bound
-mend-m-requires-clause-n_bound c = search view-le
-
-pub mend-m-requires-clause-table_value : goal.mend-m-requires-clause-table_value
-mend-m-requires-clause-table_value c = checked_fresh _ _ _ _ _ _ c.fresh.ensures c.same.ensures c.if-not-same.false-raw
+pub invariant_of-view-clause-fresh : goal.invariant_of-view-clause-fresh
+invariant_of-view-clause-fresh c = same-eq _ _ (sym c.same.ensures ∙ c.if-not-same.false) ∙ c.fresh.ensures
 
 pub returns : goal.returns
 returns c = search mark-accepted

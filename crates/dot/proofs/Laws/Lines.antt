@@ -1,18 +1,23 @@
 -- The lines of a picture along their code, and the room that they take. Assumes nothing.
 use mathlib.Core.Path.{◌≡◌, refl, sym, ap, ◌∙◌}
-use mathlib.Core.Bool.{Bool, true, false, cond, ◌||◌}
+use mathlib.Core.Bool.{Bool, true, false, cond, not, ◌||◌}
 use mathlib.Core.List.{List, [], ◌∷◌, ◌++◌}
 use Prim.Native.Nat.{ℕ, ◌+◌, ◌≤◌}
 use native.Mathlib.Omega.{arith}
 use lib.Dec.{eqb}
 use lib.ListN.{length, length-append}
-use borrow.Author.Tests.{eq-eqb, ne_eqb, eqb-true, eqb-false}
-use Rattle.sets.specs.Sets.{none, has}
+use borrow.Author.Tests.{eq-eqb, ne_eqb, eqb-true, eqb-false, not-true, not-false}
+use Rattle.std.specs.Prelude.{Option, None, Some}
+use Rattle.std.specs.Option.{is_some}
+use Rattle.sets.specs.Sets.{none, found, has}
+use Rattle.sets.proofs.Laws.Found.{nobody_found, is_found}
 use Rattle.tree.specs.Tree.{flat, parent}
 use Rattle.tree.specs.Forms.{tree_of, flat_form}
 use Rattle.tree.proofs.Laws.Forms.{flat_form_lem}
-use Rattle.text.specs.Text.{Wrote, decimal}
-use Rattle.text.proofs.Laws.Writing.{wrote_nothing, wrote_then}
+use Rattle.text.specs.Text.{decimal}
+use Rattle.text.specs.Pages.{Puts}
+use Rattle.text.specs.declared.Page.{Page}
+use Rattle.text.proofs.Laws.Writing.{puts_nothing, puts_then}
 use Rattle.text.proofs.Laws.Digits.{length-decimal}
 use Rattle.dot.specs.Dot.{opening_line, shape, node_line, edge, edge_line}
 
@@ -27,7 +32,7 @@ node_short p true c box l = omega arith
 node_short p false true box l = omega (arith, length-append (decimal p) (box ++ (59 ∷ 10 ∷ [])), length-append box (59 ∷ 10 ∷ []), length-decimal p)
 node_short p false false box l = omega (arith, length-append (decimal p) (59 ∷ 10 ∷ []), length-decimal p)
 
-length_node : (marks p : ℕ) → length (node_line marks p) ≤ 24
+pub length_node : (marks p : ℕ) → length (node_line marks p) ≤ 24
 unfolding node_line shape
 length_node marks p = node_short p (has marks p) (eqb (parent flat marks p) none) _ (omega arith)
 
@@ -42,7 +47,7 @@ length-edge p up =
       length-decimal up,
     )
 
-length-edge-line : (marks p : ℕ) → length (edge_line marks p) ≤ 26
+pub length-edge-line : (marks p : ℕ) → length (edge_line marks p) ≤ 26
 unfolding edge_line
 length-edge-line marks p = go (has marks p || eqb (parent flat marks p) none)
   where
@@ -50,43 +55,54 @@ length-edge-line marks p = go (has marks p || eqb (parent flat marks p) none)
     go true = omega arith
     go false = length-edge p (parent flat marks p)
 
-pub length-line : (marks p : ℕ) (b : Bool) → length (cond b (edge_line marks p) (node_line marks p)) ≤ 26
-length-line marks p true = length-edge-line marks p
-length-line marks p false = omega (arith, length_node marks p)
-
 -- ---- lines along their code
 
-pub node_marked : (text : List ℕ) (at marks p : ℕ) (b : Bool) → b ≡ has marks p → b ≡ true → Wrote text at (node_line marks p) text at
+pub node_marked : (page : Page) (marks p : ℕ) (b : Bool) → b ≡ has marks p → b ≡ true → Puts page (node_line marks p) page
 unfolding node_line
-node_marked text at marks p b e t = rw (sym e ∙ t) (wrote_nothing text at)
+node_marked page marks p b e t = rw (sym e ∙ t) (puts_nothing page)
 
 -- the code asks for the flat form, with box size 1
-flat-parent : (marks p up : ℕ) → up ≡ parent (tree_of flat_form 1) marks p → up ≡ parent flat marks p
-flat-parent marks p up e = e ∙ ap (λ (anc : ℕ → ℕ). parent anc marks p) (flat_form_lem 1)
+flat-parent : (marks p : ℕ) (up : Option ℕ) → up ≡ found (parent (tree_of flat_form 1) marks p) → up ≡ found (parent flat marks p)
+flat-parent marks p up e = e ∙ ap (λ (anc : ℕ → ℕ). found (parent anc marks p)) (flat_form_lem 1)
 
-pub node_root : (text : List ℕ) (at marks p : ℕ) (b : Bool) (up : ℕ) (t : List ℕ) (a : ℕ) (u : List ℕ) (c : ℕ) → b ≡ has marks p → b ≡ false → up ≡ parent (tree_of flat_form 1) marks p → up ≡ none
-    → Wrote text at (decimal p) t a → Wrote t a (32 ∷ 91 ∷ 115 ∷ 104 ∷ 97 ∷ 112 ∷ 101 ∷ 61 ∷ 98 ∷ 111 ∷ 120 ∷ 93 ∷ 59 ∷ 10 ∷ []) u c → Wrote text at (node_line marks p) u c
+no_parent : (marks p : ℕ) → None ≡ found (parent (tree_of flat_form 1) marks p) → eqb (parent flat marks p) none ≡ true
+no_parent marks p e = eq-eqb (parent flat marks p) none (nobody_found (parent flat marks p) (flat-parent marks p None e))
+
+a_parent : (marks p up : ℕ) → Some up ≡ found (parent (tree_of flat_form 1) marks p) → (up ≡ parent flat marks p) × (eqb (parent flat marks p) none ≡ false)
+a_parent marks p up e = let h = is_found (parent flat marks p) up (flat-parent marks p (Some up) e) in (h.0, ne_eqb (parent flat marks p) none h.1)
+
+-- a rank without a parent is the root
+shown : (k : ℕ) (b : Bool) → is_some (cond b None (Some k)) ≡ not b
+shown k true = refl
+shown k false = refl
+
+is_root : (k : ℕ) (up : Option ℕ) (d : Bool) → up ≡ found k → is_some up ≡ not d → d ≡ true → eqb k none ≡ true
+is_root k up d e h t = not-false (eqb k none) (sym (shown k (eqb k none)) ∙ (ap is_some (sym e) ∙ (h ∙ ap not t)))
+
+is_no_root : (k : ℕ) (up : Option ℕ) (d : Bool) → up ≡ found k → is_some up ≡ not d → d ≡ false → eqb k none ≡ false
+is_no_root k up d e h t = not-true (eqb k none) (sym (shown k (eqb k none)) ∙ (ap is_some (sym e) ∙ (h ∙ ap not t)))
+
+pub node_root : (page q r : Page) (marks p : ℕ) (b d : Bool) (up : Option ℕ) → b ≡ has marks p → b ≡ false → up ≡ found (parent (tree_of flat_form 1) marks p) → is_some up ≡ not d → d ≡ true
+    → Puts page (decimal p) q → Puts q (32 ∷ 91 ∷ 115 ∷ 104 ∷ 97 ∷ 112 ∷ 101 ∷ 61 ∷ 98 ∷ 111 ∷ 120 ∷ 93 ∷ 59 ∷ 10 ∷ []) r → Puts page (node_line marks p) r
 unfolding node_line shape
-node_root text at marks p b up t a u c e f g h v w = rw (sym e ∙ f, eq-eqb (parent flat marks p) none (sym (flat-parent marks p up g) ∙ h)) (wrote_then v w)
+node_root page q r marks p b d up e f g h t v w = rw (sym e ∙ f, is_root (parent flat marks p) up d (flat-parent marks p up g) h t) (puts_then v w)
 
-pub node_plain : (text : List ℕ) (at marks p : ℕ) (b : Bool) (up : ℕ) (t : List ℕ) (a : ℕ) (u : List ℕ) (c : ℕ) → b ≡ has marks p → b ≡ false → up ≡ parent (tree_of flat_form 1) marks p → (up ≡ none → ⊥)
-    → Wrote text at (decimal p) t a → Wrote t a (59 ∷ 10 ∷ []) u c → Wrote text at (node_line marks p) u c
+pub node_plain : (page q r : Page) (marks p : ℕ) (b d : Bool) (up : Option ℕ) → b ≡ has marks p → b ≡ false → up ≡ found (parent (tree_of flat_form 1) marks p) → is_some up ≡ not d → d ≡ false
+    → Puts page (decimal p) q → Puts q (59 ∷ 10 ∷ []) r → Puts page (node_line marks p) r
 unfolding node_line shape
-node_plain text at marks p b up t a u c e f g h v w = rw (sym e ∙ f, ne_eqb (parent flat marks p) none (λ z. h (flat-parent marks p up g ∙ z))) (wrote_then v w)
+node_plain page q r marks p b d up e f g h t v w = rw (sym e ∙ f, is_no_root (parent flat marks p) up d (flat-parent marks p up g) h t) (puts_then v w)
 
-pub edge_none : (text : List ℕ) (at marks p : ℕ) (b : Bool) (up : ℕ) → b ≡ has marks p → up ≡ parent (tree_of flat_form 1) marks p → b || eqb up none ≡ true → Wrote text at (edge_line marks p) text at
+pub edge_marked : (page : Page) (marks p : ℕ) (b : Bool) → b ≡ has marks p → b ≡ true → Puts page (edge_line marks p) page
 unfolding edge_line
-edge_none text at marks p b up e g h = rw (sym e, sym (flat-parent marks p up g), h) (wrote_nothing text at)
+edge_marked page marks p b e t = rw (sym e ∙ t) (puts_nothing page)
 
-pub edge-some : (text : List ℕ) (at marks p : ℕ) (b : Bool) (up : ℕ) (t : List ℕ) (a : ℕ) → b ≡ has marks p → up ≡ parent (tree_of flat_form 1) marks p → b || eqb up none ≡ false → Wrote text at (edge p up) t a → Wrote text at (edge_line marks p) t a
+pub edge_none : (page : Page) (marks p : ℕ) (b : Bool) → b ≡ has marks p → b ≡ false → None ≡ found (parent (tree_of flat_form 1) marks p) → Puts page (edge_line marks p) page
 unfolding edge_line
-edge-some text at marks p b up t a e g h w = rw (sym e, sym (flat-parent marks p up g), h) w
+edge_none page marks p b e f g = rw (sym e ∙ f, no_parent marks p g) (puts_nothing page)
 
-pub line-edge : (text : List ℕ) (at marks p : ℕ) (b : Bool) (t : List ℕ) (a : ℕ) → b ≡ true → Wrote text at (edge_line marks p) t a → Wrote text at (cond b (edge_line marks p) (node_line marks p)) t a
-line-edge text at marks p b t a e w = rw e w
-
-pub line_node : (text : List ℕ) (at marks p : ℕ) (b : Bool) (t : List ℕ) (a : ℕ) → b ≡ false → Wrote text at (node_line marks p) t a → Wrote text at (cond b (edge_line marks p) (node_line marks p)) t a
-line_node text at marks p b t a e w = rw e w
+pub edge_some : (page q : Page) (marks p up : ℕ) (b : Bool) → b ≡ has marks p → b ≡ false → Some up ≡ found (parent (tree_of flat_form 1) marks p) → Puts page (edge p up) q → Puts page (edge_line marks p) q
+unfolding edge_line
+edge_some page q marks p up b e f g w = let h = a_parent marks p up g in rw (sym e ∙ f, h.1, sym h.0) w
 
 -- ---- how a line begins
 

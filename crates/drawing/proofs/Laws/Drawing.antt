@@ -1,37 +1,63 @@
 -- The drawing along its code, and the room that it takes. Assumes nothing.
-use mathlib.Core.Path.{◌≡◌, refl, sym, subst, ◌∙◌}
+use mathlib.Core.Path.{◌≡◌, refl, sym, ap, subst, ◌∙◌}
 use mathlib.Core.Bool.{Bool, true, false, cond}
 use mathlib.Core.List.{List, []}
 use mathlib.Core.Logic.{⊎_elim}
-use Prim.Native.Nat.{ℕ, ◌≤◌}
+use Prim.Native.Nat.{ℕ, ◌+◌, ◌-◌, ◌*◌, ◌≤◌}
 use native.Mathlib.Nat.{mul-le-mul_right}
 use native.Mathlib.Omega.{arith}
-use lib.ListN.{length}
-use borrow.Author.Tests.{eq-eqb, ne_eqb}
+use lib.ListN.{length, get_or}
+use borrow.Author.Tests.{eq-eqb, ne_eqb, eqb-false}
+use Rattle.std.specs.Prelude.{Ok, Err}
+use Rattle.answers.specs.Answers.{number}
+use Rattle.answers.proofs.Laws.Numbers.{number-not_0}
 use Rattle.sets.specs.Sets.{has}
 use Rattle.sets.proofs.Laws.Bools.{eq_or_ne}
 use Rattle.state.specs.declared.State.{State}
-use Rattle.state.specs.States.{rank_at}
+use Rattle.state.specs.declared.Group.{Group}
+use Rattle.state.specs.States.{rank_at, zero_rank}
 use Rattle.text.specs.Text.{Wrote}
-use Rattle.text.proofs.Laws.Writing.{wrote_nothing, wrote_kept}
+use Rattle.text.specs.Pages.{Puts, Lines}
+use Rattle.text.specs.declared.Page.{Page}
+use Rattle.text.proofs.Laws.Writing.{puts_nothing, wrote_kept}
 use Rattle.text.proofs.Laws.Lines.{length-lines}
-use Rattle.schedule.specs.Runs.{run}
+use Rattle.state.specs.declared.Refused.{Refused}
+use Rattle.playing.specs.Playing.{Run}
+use Rattle.schedule.specs.Runs.{run, told}
 use Rattle.schedule.proofs.Laws.Ending.{run-ended}
 use Rattle.lines.specs.Lines.{refused_line}
 use Rattle.lines.proofs.Laws.Lines.{length-refused}
 use Rattle.pictures.specs.Pictures.{picture, picture_room}
-use Rattle.pictures.proofs.Laws.Room.{length-picture}
-use Rattle.drawing.specs.Drawings.{rank_picture, rank_pictures, drawing_of, drawing, drawing_room}
+use Rattle.pictures.proofs.Laws.Room.{length_any, length-picture}
+use Rattle.drawing.specs.Drawings.{rank_picture, rank_pictures, drawing_of, drawing, rank_room, drawing_room}
 
 -- ---- one picture
 
-pub rank_dead : (text : List ℕ) (at n dead i marks : ℕ) (b : Bool) → b ≡ has dead i → b ≡ true → Wrote text at (rank_picture n dead i marks) text at
+pub rank_dead : (page : Page) (n dead i marks : ℕ) (b : Bool) → b ≡ has dead i → b ≡ true → Puts page (rank_picture n dead i marks) page
 unfolding rank_picture
-rank_dead text at n dead i marks b e t = rw (sym e ∙ t) (wrote_nothing text at)
+rank_dead page n dead i marks b e t = rw (sym e ∙ t) (puts_nothing page)
 
-pub rank-living : (text : List ℕ) (at n dead i marks : ℕ) (b : Bool) (t : List ℕ) (a : ℕ) → b ≡ has dead i → b ≡ false → Wrote text at (picture n marks) t a → Wrote text at (rank_picture n dead i marks) t a
+pub rank-living : (page q : Page) (n dead i marks : ℕ) (b : Bool) → b ≡ has dead i → b ≡ false → Puts page (picture n marks) q → Puts page (rank_picture n dead i marks) q
 unfolding rank_picture
-rank-living text at n dead i marks b t a e f w = rw (sym e ∙ f) w
+rank-living page q n dead i marks b e f w = rw (sym e ∙ f) w
+
+pub length_rank_any : (n dead i marks : ℕ) → length (rank_picture n dead i marks) ≤ 24 + 50 * n
+unfolding rank_picture
+length_rank_any n dead i marks = go (has dead i)
+  where
+    go : (b : Bool) → length (cond b [] (picture n marks)) ≤ 24 + 50 * n
+    go true = omega arith
+    go false = length_any n marks
+
+abbrev pub pictures_of : Group → Lines
+pictures_of g = record {
+  line = λ i. rank_picture g.n g.dead i (get_or g.ranks i zero_rank).marks;
+  most = rank_room g.n;
+  short = λ i. omega (arith, length_rank_any g.n g.dead i (get_or g.ranks i zero_rank).marks);
+}
+
+pub room_pictures : (at size n : ℕ) → n ≤ 64 → at + drawing_room ≤ size → at + n * rank_room n ≤ size
+room_pictures at size n l r = let z : n - 64 ≡ 0 = omega arith in rw z (omega arith)
 
 pub length-rank : (n dead i marks : ℕ) → n ≤ 64 → length (rank_picture n dead i marks) ≤ picture_room
 unfolding rank_picture
@@ -61,6 +87,13 @@ drawing-refused file out a text t next e d w = rw (sym e, ne_eqb a 0 d) w
 pub drawing_drawn : (file out : List ℕ) (a : ℕ) (s : State) (text t : List ℕ) (next : ℕ) → a ≡ (run file out).answer → s ≡ (run file out).state → a ≡ 0 → Wrote text 0 (rank_pictures s) t next → Wrote text 0 (drawing file out) t next
 unfolding drawing drawing_of
 drawing_drawn file out a s text t next ea es z w = rw (sym ea ∙ z) (subst (λ (x : State). Wrote text 0 (rank_pictures x) t next) es w)
+
+-- the two answers of a run
+pub drawing_told : (file out : List ℕ) (r : Refused) (answers text t : List ℕ) (next : ℕ) → told (Err r) answers ≡ run file out → Wrote text 0 (refused_line (number r.refusal)) t next → Wrote text 0 (drawing file out) t next
+drawing_told file out r answers text t next e w = drawing-refused file out (number r.refusal) text t next (ap (λ (x : Run). x.answer) e) (eqb-false (number r.refusal) 0 (number-not_0 r.refusal)) w
+
+pub drawn_told : (file out : List ℕ) (s : State) (answers text t : List ℕ) (next : ℕ) → told (Ok s) answers ≡ run file out → Wrote text 0 (rank_pictures s) t next → Wrote text 0 (drawing file out) t next
+drawn_told file out s answers text t next e w = drawing_drawn file out 0 s text t next (ap (λ (x : Run). x.answer) e) (ap (λ (x : Run). x.state) e) refl w
 
 -- A drawing fits the buffer that it asks for.
 drawing_short : (file out : List ℕ) → length (drawing file out) ≤ drawing_room

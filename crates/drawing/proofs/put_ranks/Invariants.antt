@@ -1,14 +1,6 @@
--- `put_ranks` meets its contract: before rank i the pictures of the ranks below i stand. Assumes nothing.
-use Prim.Native.Nat.{◌-◌}
-use lib.ListN.{get_or}
-use Rattle.state.specs.States.{zero_rank}
-use Rattle.text.proofs.Laws.Lines.{Lining}
-use Rattle.pictures.specs.Pictures.{picture_room}
-use Rattle.drawing.specs.Drawings.{rank_picture}
+-- The pictures that `put_ranks` puts.
+use Rattle.drawing.proofs.Laws.Drawing.{pictures_of}
 use Rattle.drawing.proofs.put_ranks.Given as goal
 
-abbrev pub invariant-loop-i : goal.invariant-loop-i
-invariant-loop-i l = Lining (λ j. rank_picture l.n l.dead j (get_or l.ranks j zero_rank).marks) picture_room l.n l.initial.text 0 l.text l.next l.i
-
-abbrev pub decreases-loop-i : goal.decreases-loop-i
-decreases-loop-i l = l.n - l.i
+abbrev pub ghost-put_lines : goal.ghost-put_lines
+ghost-put_lines a = pictures_of a.line.0.now

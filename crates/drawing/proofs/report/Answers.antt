@@ -1,25 +1,18 @@
 -- `report` meets its contract: a refused run has its one line, an accepted one its pictures. Assumes nothing.
-use mathlib.Core.Path.{sym}
-use lib.Seq.{length-take-le}
-use Rattle.schedule.proofs.Laws.Ending.{run-ended}
-use Rattle.drawing.proofs.Laws.Drawing.{drawing-refused, drawing_drawn}
+use borrow.Author.Rules.{rules}
+use Rattle.text.proofs.Laws.Writing.{name_kept, page_ends}
+use Rattle.schedule.proofs.Laws.Ending.{told-ended}
+use Rattle.drawing.proofs.Laws.Drawing.{drawing_told, drawn_told}
 use Rattle.drawing.proofs.report.Goals as goal
 
-pub slice_bounds-run-end : goal.slice_bounds-run-end
-slice_bounds-run-end c = sym (length-take-le _ _ c.requires.got_in_bounds)
-
-pub returns-then-ran-ne0-clause-wrote : goal.returns-then-ran-ne0-clause-wrote
-returns-then-ran-ne0-clause-wrote c = drawing-refused _ _ _ _ _ _ c.run-ran.ensures.answer_value c.if-ran-ne0.true c.put_refused.ensures
-
-pub returns-then-ran-ne0-clause-answers_after : goal.returns-then-ran-ne0-clause-answers_after
-returns-then-ran-ne0-clause-answers_after c = c.run-ran.ensures.out_after
-
 pub draw-requires-clause-n_bound : goal.draw-requires-clause-n_bound
-draw-requires-clause-n_bound c = let e = run-ended _ _ _ _ _ c.run-ran.ensures.answer_value c.run-ran.ensures.state_value c.run-ran.ensures.out_after c.if-ran-ne0.false in
-    e.size
+draw-requires-clause-n_bound c = let e = told-ended _ _ _ _ c.in-Ok.ensures in e.size
 
-pub returns-clause-wrote : goal.returns-clause-wrote
-returns-clause-wrote c = drawing_drawn _ _ _ _ _ _ _ c.run-ran.ensures.answer_value c.run-ran.ensures.state_value c.if-ran-ne0.false c.draw.ensures
+pub returns-in-Ok-clause-wrote : goal.returns-in-Ok-clause-wrote
+returns-in-Ok-clause-wrote c = drawn_told _ _ _ _ _ _ _ c.in-Ok.ensures c.draw.ensures
 
-pub returns-clause-answers_after : goal.returns-clause-answers_after
-returns-clause-answers_after c = c.run-ran.ensures.out_after
+pub returns-in-Err-clause-wrote : goal.returns-in-Err-clause-wrote
+returns-in-Err-clause-wrote c =
+    let p = rw c.number.ensures at c.put_refused.ensures in
+    let e = name_kept p in
+    drawing_told _ _ c.in-Err.refused _ _ _ _ c.in-Err.ensures (page_ends p (search rules))

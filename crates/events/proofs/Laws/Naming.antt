@@ -9,22 +9,18 @@ use Rattle.sets.proofs.Laws.Bools.{or_cases}
 use Rattle.events.specs.Events.{names_rank, names_place}
 
 pub names_a_rank : (kind : ℕ) → (kind ≡ 1) ⊎ ((kind ≡ 3) ⊎ ((kind ≡ 4) ⊎ (kind ≡ 6))) → (names_rank kind ≡ true) × (names_place kind ≡ false)
-unfolding names_rank names_place
 names_a_rank kind (inl k) = (rw k, rw k)
 names_a_rank kind (inr (inl k)) = (rw k, rw k)
 names_a_rank kind (inr (inr (inl k))) = (rw k, rw k)
 names_a_rank kind (inr (inr (inr k))) = (rw k, rw k)
 
 pub names_a_place : (kind : ℕ) → kind ≡ 2 → names_place kind ≡ true
-unfolding names_place
 names_a_place kind k = rw k
 
 pub place_kinds : (kind : ℕ) → names_place kind ≡ true → (kind ≡ 2) ⊎ (kind ≡ 5)
-unfolding names_place
 place_kinds kind t = ⊎_elim (λ (x : eqb kind 2 ≡ true). inl (eqb-true kind 2 x)) (λ (x : eqb kind 5 ≡ true). inr (eqb-true kind 5 x)) (or_cases (eqb kind 2) (eqb kind 5) t)
 
 pub rank_kinds : (kind : ℕ) → names_rank kind ≡ true → (kind ≡ 1) ⊎ ((kind ≡ 3) ⊎ ((kind ≡ 4) ⊎ (kind ≡ 6)))
-unfolding names_rank
 rank_kinds kind t = of_four (or_cases (eqb kind 1 || eqb kind 3 || eqb kind 4) (eqb kind 6) t)
   where
     of_two : (eqb kind 1 ≡ true) ⊎ (eqb kind 3 ≡ true) → (kind ≡ 1) ⊎ ((kind ≡ 3) ⊎ ((kind ≡ 4) ⊎ (kind ≡ 6)))

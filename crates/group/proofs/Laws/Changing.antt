@@ -23,10 +23,8 @@ use Rattle.state.specs.declared.State.{State}
 use Rattle.state.specs.States.{rank_at, row_at, place_at, flying}
 use Rattle.order.specs.Between.{InOrder}
 use Rattle.order.proofs.Laws.Ordering.{in_order_facts}
-use Rattle.plans.specs.declared.Plan.{Plan}
-use Rattle.plans.specs.Plans.{acting}
-use Rattle.group.specs.declared.Stepped.{Stepped}
-use Rattle.group.specs.Events.{posted, applied, carried, subject_of, plan_of, stepped, event}
+use Rattle.plans.specs.Plans.{Planned, acting}
+use Rattle.group.specs.Events.{Stepped, posted, applied, carried, subject_of, plan_of, stepped, event}
 use Rattle.group.specs.Changes.{named, doing, sends}
 use Rattle.group.proofs.Laws.Stepping.{Taken, step_plan, step_taken, subject-named, subject_receives}
 use Rattle.group.proofs.Laws.Events.{event_steps_on, event-accepted, event-applied}
@@ -41,7 +39,7 @@ step-moved : (anc : ℕ → ℕ) (s : State) (ev : Event) → (stepped anc s ev)
 unfolding stepped carried
 step-moved anc s ev z = rw (eq-eqb (plan_of anc s ev).answer 0 (step_plan anc s ev z))
 
-applied-flying : (s : State) (place me : ℕ) (p : Plan) → flying (applied s place me p) ≡ posted (flying s) place me p
+applied-flying : (s : State) (place me : ℕ) (p : Planned) → flying (applied s place me p) ≡ posted (flying s) place me p
 unfolding applied
 applied-flying s place me p = padded-take (posted (flying s) place me p)
 

@@ -17,7 +17,7 @@ use Rattle.net.proofs.Laws.Net.{padded_in}
 use Rattle.net.proofs.Laws.Among.{Among, among_left, among_right, among_cases, without_among, among_without, letters_among, among_letters, Named, Bearing}
 use Rattle.state.specs.declared.State.{State}
 use Rattle.state.specs.States.{flying}
-use Rattle.plans.specs.declared.Plan.{Plan}
+use Rattle.plans.specs.Plans.{Planned}
 use Rattle.group.specs.Events.{posted, applied}
 use Rattle.group.proofs.Scenes.{Flies, CarriesIn, scene}
 
@@ -31,7 +31,7 @@ module _ (k b x : ℕ) (w : Triple) where
       go (q, t, e) = (sym e.0.1, e.0.0, e.1, subst (λ (y : ℕ). has f.to y ≡ true) e.0.2 t)
 
   -- what is left is of before, and what joined is one of the sends
-  pub posted_was : (l : List Message) (place me : ℕ) (p : Plan) → Among (Bearing k b x w) (posted l place me p) → Among (Bearing k b x w) l ⊎ ((b ≡ me) × SaysTriple p.acted.first p.acted.second k w x)
+  pub posted_was : (l : List Message) (place me : ℕ) (p : Planned) → Among (Bearing k b x w) (posted l place me p) → Among (Bearing k b x w) l ⊎ ((b ≡ me) × SaysTriple p.acted.first p.acted.second k w x)
   unfolding posted
   posted_was l place me p m = ⊎_elim early (λ (t : Among (Bearing k b x w) (letters me p.acted.second)). let u = letters_said me p.acted.second t in inr (u.0, inr (u.1, u.2, u.3))) (among_cases (Bearing k b x w) (cond p.leaves (without place l) l ++ letters me p.acted.first) (letters me p.acted.second) m)
     where
@@ -46,7 +46,7 @@ module _ (k b x : ℕ) (w : Triple) where
 
 module _ (k b x : ℕ) where
   -- only the message that leaves is gone
-  pub posted_stays : (l : List Message) (place me : ℕ) (p : Plan) → Among (Named k b x) l → Among (Named k b x) (posted l place me p) ⊎ ((p.leaves ≡ true) × Named k b x (get_or l place zero_message))
+  pub posted_stays : (l : List Message) (place me : ℕ) (p : Planned) → Among (Named k b x) l → Among (Named k b x) (posted l place me p) ⊎ ((p.leaves ≡ true) × Named k b x (get_or l place zero_message))
   unfolding posted
   posted_stays l place me p m = ⊎_elim (λ (n : Among (Named k b x) (cond p.leaves (without place l) l)). inl (among_left (Named k b x) (cond p.leaves (without place l) l ++ letters me p.acted.first) (letters me p.acted.second) (among_left (Named k b x) (cond p.leaves (without place l) l) (letters me p.acted.first) n))) (λ (n : (p.leaves ≡ true) × Named k b x (get_or l place zero_message)). inr n) (rest p.leaves)
     where
@@ -55,7 +55,7 @@ module _ (k b x : ℕ) where
       rest false = inl m
 
 -- and all that is sent joins
-pub posted_joins : (l : List Message) (place me : ℕ) (p : Plan) (k x : ℕ) → x < 64 → Says p.acted.first p.acted.second k x → Among (Named k me x) (posted l place me p)
+pub posted_joins : (l : List Message) (place me : ℕ) (p : Planned) (k x : ℕ) → x < 64 → Says p.acted.first p.acted.second k x → Among (Named k me x) (posted l place me p)
 unfolding posted
 posted_joins l place me p k x h (inl t) =
     among_left (Named k me x) (cond p.leaves (without place l) l ++ letters me p.acted.first) (letters me p.acted.second)
@@ -64,7 +64,7 @@ posted_joins l place me p k x h (inr t) = among_right (Named k me x) (cond p.lea
 
 -- ---- the messages in flight after a plan
 
-module _ (s : State) (place me : ℕ) (p : Plan) (k b x : ℕ) where
+module _ (s : State) (place me : ℕ) (p : Planned) (k b x : ℕ) where
   pub applied_flies : Among (Named k b x) (posted (flying s) place me p) → Flies (scene (applied s place me p)) k b x
   unfolding applied
   applied_flies m =

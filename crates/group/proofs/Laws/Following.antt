@@ -39,8 +39,7 @@ use Rattle.state.specs.States.{zero_rank, rank_at, row_at, place_at, flying}
 use Rattle.order.proofs.Facts.{InOrderFacts}
 use Rattle.order.specs.Between.{InOrder}
 use Rattle.order.proofs.Laws.Ordering.{in_order_facts}
-use Rattle.plans.specs.declared.Plan.{Plan}
-use Rattle.plans.specs.Plans.{idle, delivered}
+use Rattle.plans.specs.Plans.{Planned, idle, delivered}
 use Rattle.plans.proofs.Laws.Planning.{act-enters, act-delivers, act-notices, act-acknowledges, act-nothing}
 use Rattle.plans.proofs.Laws.Cases as Plans
 use Rattle.plans.proofs.Laws.Cases.{Dropped, delivered_by}
@@ -55,10 +54,10 @@ use Rattle.group.proofs.Laws.Events.{event-accepted, event-applied, refused_stay
 use Rattle.group.proofs.Laws.Flying.{posted_was, posted_stays, posted_joins, applied_flies, carries_applied}
 
 -- the state after the plan of an event
-abbrev after : State → Event → Plan → State
+abbrev after : State → Event → Planned → State
 after s ev p = applied s ev.a (subject_of s ev) p
 
-module _ (anc : ℕ → ℕ) (s : State) (f : InOrderFacts anc s) (ev : Event) (p : Plan) (e : p ≡ plan_of anc s ev) (z : p.answer ≡ 0) where
+module _ (anc : ℕ → ℕ) (s : State) (f : InOrderFacts anc s) (ev : Event) (p : Planned) (e : p ≡ plan_of anc s ev) (z : p.answer ≡ 0) where
   flying-long : length (flying s) ≡ s.group.count
   flying-long = list-long anc s f ev p e z
 
@@ -199,14 +198,14 @@ module _ (anc : ℕ → ℕ) (s : State) (f : InOrderFacts anc s) (ev : Event) (
         let d : has s.group.dead ev.b ≡ true = clean_told _ _ _ _ _ _ (ok anc s f ev p e z).clean k in
         let o : ev.b ≡ subject_of s ev → ⊥ = λ q. clash (has s.group.dead (subject_of s ev)) (subst (λ (x : ℕ). has s.group.dead x ≡ true) q d) (named_lives t.0 t.1) in
         let l : ev.b < s.group.n = clean_notice _ _ _ _ _ _ (ok anc s f ev p e z).clean k in
-        silent_turn zero_triple t.0 t.1 (λ x. omega arith) _ (act-notices anc s.group.n s.group.dead ev (place_at s ev.a) (subject_of s ev) (rank_at s (subject_of s ev)) (row_at s (subject_of s ev)) _ (λ x. omega arith) (λ x. omega arith) k refl ∙ sym (ok anc s f ev p e z).acted_is)
+        silent_turn zero_triple t.0 t.1 (λ x. omega arith) _ (act-notices anc s.group.n s.group.dead ev (place_at s ev.a) (subject_of s ev) (rank_at s (subject_of s ev)) (row_at s (subject_of s ev)) _ k refl ∙ sym (ok anc s f ev p e z).acted_is)
         (notice_turn anc tree s.group.n (subject_of s ev) f.shape.small (subject_in anc s f ev) ev.b (rank_at s (subject_of s ev)) seat.in_order l o)
         (notice_speech anc s.group.n (subject_of s ev) f.shape.small (subject_in anc s f ev) (Entry (scene s) ev (subject_of s ev) zero_triple) zero_triple ev.b (rank_at s (subject_of s ev)))
 
     acknowledges-moves : ev.kind ≡ 6 → Move anc s.group.n (Entry (scene s) ev) (scene s) (scene (after s ev p))
     acknowledges-moves k =
         let t = names_a_rank ev.kind (inr (inr (inr k))) in
-        silent_turn zero_triple t.0 t.1 (λ x. omega arith) _ (act-acknowledges anc s.group.n s.group.dead ev (place_at s ev.a) (subject_of s ev) (rank_at s (subject_of s ev)) (row_at s (subject_of s ev)) _ (λ x. omega arith) (λ x. omega arith) (λ x. omega arith) k refl ∙ sym (ok anc s f ev p e z).acted_is)
+        silent_turn zero_triple t.0 t.1 (λ x. omega arith) _ (act-acknowledges anc s.group.n s.group.dead ev (place_at s ev.a) (subject_of s ev) (rank_at s (subject_of s ev)) (row_at s (subject_of s ev)) _ k refl ∙ sym (ok anc s f ev p e z).acted_is)
         (acknowledge_turn anc tree s.group.n (subject_of s ev) f.shape.small (subject_in anc s f ev) (rank_at s (subject_of s ev)))
         (acknowledge_speech anc s.group.n (subject_of s ev) f.shape.small (subject_in anc s f ev) (Entry (scene s) ev (subject_of s ev) zero_triple) zero_triple (rank_at s (subject_of s ev)))
 
@@ -226,7 +225,7 @@ module _ (anc : ℕ → ℕ) (s : State) (f : InOrderFacts anc s) (ev : Event) (
       receiver = sym (subject_receives s ev (names_a_place ev.kind k))
 
       acted_delivered : p.acted ≡ delivered anc s.group.n s.group.dead (subject_of s ev) (place_at s ev.a) (rank_at s (subject_of s ev)) (row_at s (subject_of s ev))
-      acted_delivered = (ok anc s f ev p e z).acted_is ∙ sym (act-delivers anc s.group.n s.group.dead ev (place_at s ev.a) (subject_of s ev) (rank_at s (subject_of s ev)) (row_at s (subject_of s ev)) _ (λ x. omega arith) k refl)
+      acted_delivered = (ok anc s f ev p e z).acted_is ∙ sym (act-delivers anc s.group.n s.group.dead ev (place_at s ev.a) (subject_of s ev) (rank_at s (subject_of s ev)) (row_at s (subject_of s ev)) _ k refl)
 
       -- to a dead rank, or from a sender that the receiver has marked, who is dead
       dropped_by_loss : Dropped s.group.dead (subject_of s ev) (place_at s ev.a) (rank_at s (subject_of s ev)) → idle (rank_at s (subject_of s ev)) (row_at s (subject_of s ev)) ≡ p.acted → Move anc s.group.n (Entry (scene s) ev) (scene s) (scene (after s ev p))

@@ -28,8 +28,7 @@ use Rattle.order.specs.Between.{InOrder}
 use Rattle.order.proofs.Laws.Ordering.{in_order_facts}
 use Rattle.plans.proofs.Laws.Cases.{is_dropped, is_undropped}
 use Rattle.plans.proofs.Laws.Knowing as Knowing
-use Rattle.group.specs.declared.Stepped.{Stepped}
-use Rattle.group.specs.Events.{applied, subject_of, stepped, event}
+use Rattle.group.specs.Events.{Stepped, applied, subject_of, stepped, event}
 use Rattle.group.specs.Reaching.{MovesExactly, table_below, AskMoves}
 use Rattle.group.proofs.Laws.Stepping.{step_taken, subject-named, subject_receives, subject_in}
 use Rattle.group.proofs.Laws.Preserving.{stepped-cases, step_changes_one, step_keeps_order}

@@ -31,10 +31,9 @@ use Rattle.state.specs.States.{zero_rank, rank_at, row_at, place_at, flying}
 use Rattle.order.proofs.Facts.{InOrderFacts}
 use Rattle.order.specs.Between.{InOrder}
 use Rattle.order.proofs.Laws.Ordering.{in_order_facts, facts_in_order}
-use Rattle.plans.specs.declared.Plan.{Plan}
+use Rattle.plans.specs.Plans.{Planned}
 use Rattle.plans.proofs.Laws.Acting.{Outcome, acting_outcome}
-use Rattle.group.specs.declared.Stepped.{Stepped}
-use Rattle.group.specs.Events.{posted, applied, refused, carried, subject_of, plan_of, stepped}
+use Rattle.group.specs.Events.{Stepped, posted, applied, refused, carried, subject_of, plan_of, stepped}
 use Rattle.group.proofs.Laws.Stepping.{Taken, plan_taken, subject-named, subject_receives, subject_in}
 
 -- ---- an accepted event
@@ -50,7 +49,7 @@ last_one n dead a l f e = ext (minus (below n) dead) (only a) (λ k. same_test (
     him : (k : ℕ) → has (only a) k ≡ true → has (minus (below n) dead) k ≡ true
     him k t = let q : k ≡ a = eqb-true k a (sym (has-only a k) ∙ t) in subst (λ (x : ℕ). has (minus (below n) dead) x ≡ true) (sym q) (minus_i (below n) dead a (has-below-lt n a l) f)
 
-module _ (anc : ℕ → ℕ) (s : State) (f : InOrderFacts anc s) (ev : Event) (p : Plan) (e : p ≡ plan_of anc s ev) (z : p.answer ≡ 0) where
+module _ (anc : ℕ → ℕ) (s : State) (f : InOrderFacts anc s) (ev : Event) (p : Planned) (e : p ≡ plan_of anc s ev) (z : p.answer ≡ 0) where
   own : subject_of s ev < s.group.n
   own = subject_in anc s f ev
 
@@ -201,8 +200,8 @@ module _ (anc : ℕ → ℕ) (s : State) (f : InOrderFacts anc s) (ev : Event) (
 
 -- ---- the theorem
 
-pub stepped-cases : (anc : ℕ → ℕ) (s : State) (ev : Event) (P : State → Type 0) → P s → ((p : Plan) → p ≡ plan_of anc s ev → p.answer ≡ 0 → P (applied s ev.a (subject_of s ev) p)) → P (stepped anc s ev).state
-unfolding stepped carried refused
+pub stepped-cases : (anc : ℕ → ℕ) (s : State) (ev : Event) (P : State → Type 0) → P s → ((p : Planned) → p ≡ plan_of anc s ev → p.answer ≡ 0 → P (applied s ev.a (subject_of s ev) p)) → P (stepped anc s ev).state
+unfolding stepped carried
 stepped-cases anc s ev P same taken = go (eqb (plan_of anc s ev).answer 0) refl
   where
     go : (t : Bool) → eqb (plan_of anc s ev).answer 0 ≡ t → P (cond {A = Stepped} t (record { answer = 0; sent = size (plan_of anc s ev).acted.first + size (plan_of anc s ev).acted.second; moved = (plan_of anc s ev).acted.moved; state = applied s ev.a (subject_of s ev) (plan_of anc s ev) }) (record { answer = (plan_of anc s ev).answer; sent = 0; moved = nobody; state = s })).state

@@ -8,13 +8,18 @@ use Prim.Native.Nat.{ℕ, ◌+◌, ◌≤◌, ◌<◌}
 use native.Mathlib.Omega.{arith}
 use lib.Dec.{eqb}
 use lib.ListN.{length, get_or, set, take, get_or-eq_default}
-use borrow.Author.Tests.{eq-eqb, ne_eqb, eqb-true}
+use borrow.Author.Tests.{eq-eqb, eqb-true}
 use Rattle.sets.specs.Sets.{has, add, count}
 use Rattle.sets.proofs.Laws.Bools.{passes_or_fails, lt-or-le}
+use Rattle.std.specs.Prelude.{Result, Ok, Err}
+use Rattle.answers.specs.declared.Refusal.{Refusal}
+use Rattle.answers.specs.Answers.{number}
+use Rattle.answers.proofs.Laws.Numbers.{number-not_0}
 use Rattle.tree.specs.Tree.{nobody}
+use Rattle.rank.specs.declared.Rank.{Rank}
 use Rattle.rank.specs.declared.Message.{Message}
-use Rattle.net.specs.Net.{in_flight, zero_message, padded, placed}
-use Rattle.net.proofs.Laws.Forwarding.{holding_again, forward_fits}
+use Rattle.rank.specs.Between.{FreshRow}
+use Rattle.net.specs.Net.{in_flight, zero_message, padded}
 use Rattle.events.specs.declared.Event.{Event}
 use Rattle.events.specs.Events.{names_place}
 use Rattle.state.specs.declared.State.{State}
@@ -23,32 +28,31 @@ use Rattle.order.proofs.Facts.{InOrderFacts}
 use Rattle.order.specs.Between.{InOrder}
 use Rattle.order.proofs.Laws.Ordering.{in_order_facts, places-held}
 use Rattle.plans.specs.declared.Plan.{Plan}
-use Rattle.plans.specs.Plans.{subject, planned}
+use Rattle.plans.specs.Plans.{Planned, subject, refusing, planned, as_planned, told}
 use Rattle.plans.specs.Between.{FreshSubject}
 use Rattle.refusals.proofs.Laws.Refusing.{clean_place}
 use Rattle.plans.proofs.Laws.Planning as Planning
 use Rattle.plans.proofs.Laws.Accepting.{Accepted, planned-accepted}
-use Rattle.group.specs.declared.Stepped.{Stepped}
 use Rattle.group.specs.Between.{Carriable}
-use Rattle.group.specs.Events.{posted, applied, refused, carried, subject_of, plan_of, stepped}
+use Rattle.group.specs.Events.{Stepped, posted, applied, refused, carried, subject_of, plan_of, stepped}
 
 -- ---- what an accepted event is about
 
 -- the plan of this event on this state is accepted
-abbrev pub Taken : (ℕ → ℕ) → State → Event → Plan → Type 0
+abbrev pub Taken : (ℕ → ℕ) → State → Event → Planned → Type 0
 Taken anc s ev p = Accepted anc s.group.n s.group.dead s.group.count ev (place_at s ev.a) (subject_of s ev) (rank_at s (subject_of s ev)) (row_at s (subject_of s ev)) p
 
-pub plan_taken : (anc : ℕ → ℕ) (s : State) (ev : Event) (p : Plan) → p ≡ plan_of anc s ev → p.answer ≡ 0 → Taken anc s ev p
+pub plan_taken : (anc : ℕ → ℕ) (s : State) (ev : Event) (p : Planned) → p ≡ plan_of anc s ev → p.answer ≡ 0 → Taken anc s ev p
 unfolding plan_of
 plan_taken anc s ev p e z = planned-accepted anc s.group.n s.group.dead s.group.count ev (place_at s ev.a) (subject_of s ev) (rank_at s (subject_of s ev)) (row_at s (subject_of s ev)) p e z
 
 pub step_plan : (anc : ℕ → ℕ) (s : State) (ev : Event) → (stepped anc s ev).answer ≡ 0 → (plan_of anc s ev).answer ≡ 0
-unfolding stepped carried refused
+unfolding stepped carried
 step_plan anc s ev e = ⊎_elim (λ (t : eqb (plan_of anc s ev).answer 0 ≡ true). eqb-true (plan_of anc s ev).answer 0 t) (λ (t : eqb (plan_of anc s ev).answer 0 ≡ false). rw t at e) (passes_or_fails (eqb (plan_of anc s ev).answer 0))
 
 -- a refused event leaves the state as it was
 pub step_stays : (anc : ℕ → ℕ) (s : State) (ev : Event) → ((stepped anc s ev).answer ≡ 0 → ⊥) → (stepped anc s ev).state ≡ s
-unfolding stepped carried refused
+unfolding stepped carried
 step_stays anc s ev d = go (passes_or_fails (eqb (plan_of anc s ev).answer 0))
   where
     go : (eqb (plan_of anc s ev).answer 0 ≡ true) ⊎ (eqb (plan_of anc s ev).answer 0 ≡ false) → (stepped anc s ev).state ≡ s
@@ -97,19 +101,22 @@ subject-below anc s ev m me o e g =
     let h : me ≡ subject_of s ev = g ∙ ap (subject s.group.n ev) e in
     omega (arith, f.shape.small)
 
-pub step_ready : (anc : ℕ → ℕ) (s : State) (ev : Event) (m : Message) (me : ℕ) (t : List (List ℕ)) → InOrder anc s → m ≡ get_or s.group.net ev.a zero_message → me ≡ subject s.group.n ev m → t ≡ s.tables
-    → FreshSubject anc s.group.n m me (get_or s.group.ranks me zero_rank) (get_or t me [])
+-- the rank that the event is about has a seat
+pub step_seat : (anc : ℕ → ℕ) (s : State) (ev : Event) (m : Message) (me : ℕ) → InOrder anc s → m ≡ get_or s.group.net ev.a zero_message → me ≡ subject s.group.n ev m
+    → FreshRow anc s.group.n me (get_or s.group.ranks me zero_rank) (get_or s.tables me [])
 unfolding subject_of
-step_ready anc s ev m me t o e g h =
+step_seat anc s ev m me o e g =
     let f = in_order_facts anc s o in
-    let h' : me ≡ subject_of s ev = g ∙ ap (subject s.group.n ev) e in
-    let l : me < s.group.n = subst (λ (x : ℕ). x < s.group.n) (sym h') (subject_in anc s f ev) in
-    let r = f.member me l in
-    record {
-      fresh-row = record { size = f.shape.small; own = l; table = ap (λ (x : List (List ℕ)). get_or x me []) h ∙ r.table };
-      awaits = r.in_order.to_settle.awaits;
-      sender = subst (λ (x : Message). x.from < s.group.n) (sym e) (ends_in anc s f ev.a).0;
-    }
+    let h : me ≡ subject_of s ev = g ∙ ap (subject s.group.n ev) e in
+    let l : me < s.group.n = subst (λ (x : ℕ). x < s.group.n) (sym h) (subject_in anc s f ev) in
+    record { size = f.shape.small; own = l; table = (f.member me l).table }
+
+pub step_ready : (anc : ℕ → ℕ) (s : State) (ev : Event) (m : Message) (me : ℕ) → InOrder anc s → m ≡ get_or s.group.net ev.a zero_message → me ≡ subject s.group.n ev m
+    → FreshSubject anc s.group.n m me (get_or s.group.ranks me zero_rank)
+step_ready anc s ev m me o e g =
+    let f = in_order_facts anc s o in
+    let own = step_seat anc s ev m me o e g in
+    record { awaits = (f.member me own.own).in_order.to_settle.awaits; sender = subst (λ (x : Message). x.from < s.group.n) (sym e) (ends_in anc s f ev.a).0 }
 
 -- ---- what a state in order gives the list
 
@@ -121,17 +128,18 @@ step_count anc s o = (in_order_facts anc s o).count-le
 
 -- ---- what comes of it
 
-pub plan_is : (anc : ℕ → ℕ) (s : State) (ev : Event) (m : Message) (me : ℕ) (t : List (List ℕ)) (p : Plan) → m ≡ get_or s.group.net ev.a zero_message → me ≡ subject s.group.n ev m → t ≡ s.tables
-    → p ≡ planned anc s.group.n s.group.dead s.group.count ev m me (get_or s.group.ranks me zero_rank) (get_or t me []) → p ≡ plan_of anc s ev
+pub plan_is : (anc : ℕ → ℕ) (s : State) (ev : Event) (m : Message) (me : ℕ) (x : Result Plan Refusal) → m ≡ get_or s.group.net ev.a zero_message → me ≡ subject s.group.n ev m
+    → told (rank_at s me) (row_at s me) x ≡ planned anc s.group.n s.group.dead s.group.count ev m me (rank_at s me) (row_at s me)
+    → told (rank_at s (subject_of s ev)) (row_at s (subject_of s ev)) x ≡ plan_of anc s ev
 unfolding plan_of subject_of
-plan_is anc s ev m me t p e g h q = q ∙ rw (h, g, e)
+plan_is anc s ev m me x e g q = rw (g, e) at q
 
 pub me_is : (s : State) (ev : Event) (m : Message) (me : ℕ) → m ≡ get_or s.group.net ev.a zero_message → me ≡ subject s.group.n ev m → me ≡ subject_of s ev
 unfolding subject_of
 me_is s ev m me e g = g ∙ ap (subject s.group.n ev) e
 
 -- a plan that is accepted can be carried out
-pub step_carriable : (anc : ℕ → ℕ) (s : State) (ev : Event) (p : Plan) (me : ℕ) → InOrder anc s → p ≡ plan_of anc s ev → p.answer ≡ 0 → me ≡ subject_of s ev → Carriable s ev.a me p
+pub step_carriable : (anc : ℕ → ℕ) (s : State) (ev : Event) (p : Planned) (me : ℕ) → InOrder anc s → p ≡ plan_of anc s ev → p.answer ≡ 0 → me ≡ subject_of s ev → Carriable s ev.a me p
 step_carriable anc s ev p me o e z g =
     let f = in_order_facts anc s o in
     let x = plan_taken anc s ev p e z in
@@ -143,30 +151,17 @@ step_carriable anc s ev p me o e z g =
       own = omega (arith, subject_in anc s f ev, f.shape.small);
     }
 
--- a plan that can be carried out has its messages in place, before and after
-pub carry_posts : (s : State) (place me : ℕ) (p : Plan) (m : List Message) → Carriable s place me p → m ≡ s.group.net → m ≡ padded (take s.group.count m)
-carry_posts s place me p m h e = subst (λ (x : List Message). x ≡ padded (take s.group.count x)) (sym e) h.held
-
-pub carry-posted : (s : State) (place me : ℕ) (p : Plan) (m next : List Message) (c : ℕ) → Carriable s place me p → m ≡ s.group.net
-    → c ≡ (placed (posted (take s.group.count m) place me p)).count → next ≡ (placed (posted (take s.group.count m) place me p)).net → (next ≡ padded (take c next)) × (c ≤ 128)
-unfolding posted
-carry-posted s place me p m next c h e f g = (
-  holding_again next c (posted (take s.group.count m) place me p) (record { places = g; number = f }),
-  (let l = forward_fits m s.group.count place me p.leaves p.acted.first p.acted.second (carry_posts s place me p m h e) h.count-le h.there h.room in omega arith),
-)
-
-pub carry-applied : (s : State) (place me : ℕ) (p : Plan) (m : List Message) (c : ℕ) (next : List Message) (d : ℕ) (t : List (List ℕ)) (u : State) → t ≡ s.tables → m ≡ s.group.net
-    → c ≡ (placed (posted (take s.group.count m) place me p)).count → next ≡ (placed (posted (take s.group.count m) place me p)).net → d ≡ cond p.dies (add s.group.dead me) s.group.dead
-    → u ≡ joined (record { n = s.group.n; form = s.group.form; span = s.group.span; count = c; dead = d; ranks = set s.group.ranks me p.acted.rank; net = next }) (set t me p.acted.row)
-    → u ≡ applied s place me p
+-- l is the list that flies once the plan is carried out
+pub carry-applied : (s : State) (place me : ℕ) (p : Planned) (l : List Message) (d : ℕ) → l ≡ posted (flying s) place me p → d ≡ cond p.dies (add s.group.dead me) s.group.dead
+    → joined (record { n = s.group.n; form = s.group.form; span = s.group.span; count = length l; dead = d; ranks = set s.group.ranks me p.acted.rank; net = padded l }) (set s.tables me p.acted.row) ≡ applied s place me p
 unfolding applied
-carry-applied s place me p m c next d t u et em ec en ed eu = eu ∙ rw (ec, en, em, ed, et)
+carry-applied s place me p l d e ed = rw (e, ed)
 
-pub step-refuses : (anc : ℕ → ℕ) (s : State) (ev : Event) (p : Plan) (r : Stepped) → p ≡ plan_of anc s ev → (p.answer ≡ 0 → ⊥) → r ≡ refused p.answer s → r ≡ stepped anc s ev
+pub step-refuses : (anc : ℕ → ℕ) (s : State) (ev : Event) (e : Refusal) (r : Rank) (row : List ℕ) → refusing (number e) r row ≡ plan_of anc s ev → refused (number e) s ≡ stepped anc s ev
 unfolding stepped carried
-step-refuses anc s ev p r e z f = f ∙ rw (← e, ne_eqb p.answer 0 z)
+step-refuses anc s ev e r row h = let a : (plan_of anc s ev).answer ≡ number e = ap (λ (p : Planned). p.answer) (sym h) ∙ Planning.refusing-answer (number e) r row in rw (a, number-not_0 e)
 
-pub step_carries : (anc : ℕ → ℕ) (s : State) (ev : Event) (p : Plan) (me x y : ℕ) (u : State) → p ≡ plan_of anc s ev → p.answer ≡ 0 → me ≡ subject_of s ev
+pub step_carries : (anc : ℕ → ℕ) (s : State) (ev : Event) (p : Planned) (me x y : ℕ) (u : State) → p ≡ plan_of anc s ev → p.answer ≡ 0 → me ≡ subject_of s ev
     → x ≡ count (has p.acted.first.to) 64 → y ≡ count (has p.acted.second.to) 64 → u ≡ applied s ev.a me p
     → ◌≡◌ {A = Stepped} (record { answer = 0; sent = x + y; moved = p.acted.moved; state = u }) (stepped anc s ev)
 unfolding stepped carried
@@ -174,16 +169,21 @@ step_carries anc s ev p me x y u e z g ex ey eu = rw (← e, ← g, eq-eqb p.ans
 
 -- ---- the same from the parts of a state
 
-pub step-refused : (anc : ℕ → ℕ) (s : State) (ev : Event) (m : Message) (me : ℕ) (t : List (List ℕ)) (p : Plan) → m ≡ get_or s.group.net ev.a zero_message → me ≡ subject s.group.n ev m → t ≡ s.tables
-    → p ≡ planned anc s.group.n s.group.dead s.group.count ev m me (get_or s.group.ranks me zero_rank) (get_or t me []) → (p.answer ≡ 0 → ⊥)
-    → ◌≡◌ {A = Stepped} (record { answer = p.answer; sent = 0; moved = nobody; state = s }) (stepped anc s ev)
-unfolding refused
-step-refused anc s ev m me t p e g h q z = step-refuses anc s ev p (refused p.answer s) (plan_is anc s ev m me t p e g h q) z refl
+pub step-refused : (anc : ℕ → ℕ) (s : State) (ev : Event) (m : Message) (me : ℕ) (e : Refusal) → m ≡ get_or s.group.net ev.a zero_message → me ≡ subject s.group.n ev m
+    → refusing (number e) (rank_at s me) (row_at s me) ≡ planned anc s.group.n s.group.dead s.group.count ev m me (rank_at s me) (row_at s me)
+    → ◌≡◌ {A = Stepped} (record { answer = number e; sent = 0; moved = nobody; state = s }) (stepped anc s ev)
+step-refused anc s ev m me e em eg q = step-refuses anc s ev e _ _ (plan_is anc s ev m me (Err e) em eg q)
 
-pub step-accepted : (anc : ℕ → ℕ) (s : State) (ev : Event) (m : Message) (me : ℕ) (t : List (List ℕ)) (p : Plan) (c : ℕ) (next : List Message) (d x y : ℕ) (u : State) → m ≡ get_or s.group.net ev.a zero_message → me ≡ subject s.group.n ev m → t ≡ s.tables
-    → p ≡ planned anc s.group.n s.group.dead s.group.count ev m me (get_or s.group.ranks me zero_rank) (get_or t me []) → p.answer ≡ 0
-    → c ≡ (placed (posted (flying s) ev.a me p)).count → next ≡ (placed (posted (flying s) ev.a me p)).net → d ≡ cond p.dies (add s.group.dead me) s.group.dead → x ≡ count (has p.acted.first.to) 64 → y ≡ count (has p.acted.second.to) 64
-    → u ≡ joined (record { n = s.group.n; form = s.group.form; span = s.group.span; count = c; dead = d; ranks = set s.group.ranks me p.acted.rank; net = next }) (set t me p.acted.row)
-    → ◌≡◌ {A = Stepped} (record { answer = 0; sent = x + y; moved = p.acted.moved; state = u }) (stepped anc s ev)
-step-accepted anc s ev m me t p c next d x y u em eg et ep z ec en ed ex ey eu =
-    step_carries anc s ev p me x y u (plan_is anc s ev m me t p em eg et ep) z (me_is s ev m me em eg) ex ey (carry-applied s ev.a me p s.group.net c next d t u et refl ec en ed eu)
+pub step-accepted : (anc : ℕ → ℕ) (s : State) (ev : Event) (m : Message) (me : ℕ) (p : Plan) (l : List Message) (d x y : ℕ) → m ≡ get_or s.group.net ev.a zero_message → me ≡ subject s.group.n ev m
+    → as_planned p ≡ planned anc s.group.n s.group.dead s.group.count ev m me (rank_at s me) (row_at s me)
+    → l ≡ posted (flying s) ev.a me (as_planned p) → d ≡ cond p.dies (add s.group.dead me) s.group.dead → x ≡ count (has p.acted.first.to) 64 → y ≡ count (has p.acted.second.to) 64
+    → ◌≡◌ {A = Stepped}
+    (record {
+      answer = 0;
+      sent = x + y;
+      moved = p.acted.moved;
+      state = joined (record { n = s.group.n; form = s.group.form; span = s.group.span; count = length l; dead = d; ranks = set s.group.ranks me p.acted.rank; net = padded l }) (set s.tables me p.acted.row);
+    })
+    (stepped anc s ev)
+step-accepted anc s ev m me p l d x y em eg ep el ed ex ey =
+    step_carries anc s ev (as_planned p) me x y _ (plan_is anc s ev m me (Ok p) em eg ep) refl (me_is s ev m me em eg) ex ey (carry-applied s ev.a me (as_planned p) l d el ed)

@@ -1,33 +1,13 @@
 -- `carry` meets its contract: carrying a plan out is the definition. Assumes nothing.
-use mathlib.Core.Path.{◌∙◌}
-use Rattle.group.proofs.Laws.Stepping.{carry_posts, carry-posted, carry-applied}
+use mathlib.Core.Path.{ap, ◌∙◌}
+use mathlib.Core.List.{List}
+use Rattle.rank.specs.declared.Message.{Message}
+use Rattle.plans.specs.Plans.{as_planned}
+use Rattle.group.specs.Events.{posted}
+use Rattle.group.proofs.Laws.Stepping.{carry-applied}
 use Rattle.group.proofs.carry.Goals as goal
 
-pub post-after-requires-clause-net_value : goal.post-after-requires-clause-net_value
-post-after-requires-clause-net_value c = let pre = c.requires in
-    carry_posts _ _ _ _ _ pre c.numbers-net.ensures.result_value
-
-pub post-after-requires-clause-count_bound : goal.post-after-requires-clause-count_bound
-post-after-requires-clause-count_bound c = let pre = c.requires in
-    pre.count-le
-
-pub post-after-requires-clause-place_lt_count : goal.post-after-requires-clause-place_lt_count
-post-after-requires-clause-place_lt_count c = let pre = c.requires in
-    pre.there
-
-pub post-after-requires-clause-leaves_bound : goal.post-after-requires-clause-leaves_bound
-post-after-requires-clause-leaves_bound c = let pre = c.requires in
-    pre.room
-
-pub post-after-requires-clause-small : goal.post-after-requires-clause-small
-post-after-requires-clause-small c = let pre = c.requires in
-    c.numbers-net.ensures.small
-
-pub messages-requires-clause-net_value : goal.messages-requires-clause-net_value
-messages-requires-clause-net_value c = (carry-posted _ _ _ _ _ _ _ c.requires c.numbers-net.ensures.result_value c.post-after.ensures.count_value c.post-after.ensures.net_after).0
-
-pub messages-requires-clause-count_bound : goal.messages-requires-clause-count_bound
-messages-requires-clause-count_bound c = (carry-posted _ _ _ _ _ _ _ c.requires c.numbers-net.ensures.result_value c.post-after.ensures.count_value c.post-after.ensures.net_after).1
-
 pub returns : goal.returns
-returns c = carry-applied _ _ _ _ _ _ _ _ _ _ c.tables_of-tables.ensures c.numbers-net.ensures.result_value c.post-after.ensures.count_value (c.messages.ensures ∙ c.post-after.ensures.net_after) c.buried.ensures c.join.ensures
+returns c =
+    rw (c.count-s.ensures, c.places-s.ensures)
+    (carry-applied _ _ _ _ _ _ (c.post.ensures.after ∙ ap (λ (l : List Message). posted l c.args.place c.args.me (as_planned c.args.p)) c.of-flight.ensures) c.buried-s.ensures)

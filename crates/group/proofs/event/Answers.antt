@@ -6,10 +6,10 @@ pub returns-then-wrong_size : goal.returns-then-wrong_size
 returns-then-wrong_size c = search event_wrong_size
 
 pub returns-then-not-in_order : goal.returns-then-not-in_order
-returns-then-not-in_order c = event_disordered _ _ _ _ _ _ c.wrong_size.ensures c.if-wrong_size.false c.in_order.ensures.value c.if-not-in_order.true-raw c.refused-then-not-in_order.ensures
+returns-then-not-in_order c = search event_disordered
 
 pub step-requires : goal.step-requires
-step-requires c = in_order_from _ _ _ c.in_order.ensures.value c.if-not-in_order.false-raw c.in_order.ensures.shaped
+step-requires c = search in_order_from
 
 pub returns : goal.returns
-returns c = event_steps _ _ _ _ _ _ c.wrong_size.ensures c.if-wrong_size.false c.in_order.ensures.value c.if-not-in_order.false-raw c.step.ensures
+returns c = search event_steps

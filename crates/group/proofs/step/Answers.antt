@@ -1,12 +1,13 @@
 -- `step` meets its contract: a refused plan hands the state back, an accepted one is carried out. Assumes nothing.
+use mathlib.Core.Path.{refl}
 use Rattle.group.proofs.Laws.Stepping.{step_carriable, step-refuses, step_carries}
 use Rattle.group.proofs.step.Goals as goal
 
-pub returns-then-p-ne0 : goal.returns-then-p-ne0
-returns-then-p-ne0 c = search step-refuses
+pub carry-state-requires : goal.carry-state-requires
+carry-state-requires c = step_carriable _ _ _ _ _ c.requires c.in-Ok.ensures refl c.subject_of-me.ensures
 
-pub carry-requires : goal.carry-requires
-carry-requires c = search step_carriable
+pub returns-in-Ok : goal.returns-in-Ok
+returns-in-Ok c = step_carries _ _ _ _ _ _ _ _ c.in-Ok.ensures refl c.subject_of-me.ensures c.size.ensures c.size-in-Ok.ensures c.carry-state.ensures
 
-pub returns : goal.returns
-returns c = search step_carries
+pub returns-in-Err : goal.returns-in-Err
+returns-in-Err c = step-refuses _ _ _ _ _ _ c.in-Err.ensures

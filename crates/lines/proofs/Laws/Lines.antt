@@ -10,8 +10,9 @@ use borrow.Author.Tests.{eq-eqb, ne_eqb}
 use Rattle.rank.specs.declared.Rank.{Rank}
 use Rattle.rank.specs.Words.{decided}
 use Rattle.rank.specs.Triples.{code}
-use Rattle.text.specs.Text.{Wrote, decimal, field}
-use Rattle.text.proofs.Laws.Writing.{wrote_then}
+use Rattle.text.specs.Text.{decimal, field}
+use Rattle.text.specs.Pages.{Puts}
+use Rattle.text.specs.declared.Page.{Page}
 use Rattle.text.proofs.Laws.Digits.{length-decimal, length-field}
 use Rattle.lines.specs.Lines.{first_line, event_line, living, verdict_field, rank_line, last_line, refused_line}
 
@@ -49,16 +50,16 @@ length-verdict phase number = go (eqb phase decided)
     go true = length-field number
     go false = omega arith
 
-pub verdict-decided : (text : List ℕ) (at phase number : ℕ) (t : List ℕ) (a : ℕ) → phase ≡ decided → Wrote text at (field number) t a → Wrote text at (verdict_field phase number) t a
+pub verdict-decided : (p q : Page) (phase number : ℕ) → phase ≡ decided → Puts p (field number) q → Puts p (verdict_field phase number) q
 unfolding verdict_field
-verdict-decided text at phase number t a e w = rw (eq-eqb phase decided e) w
+verdict-decided p q phase number e h = rw (eq-eqb phase decided e) h
 
-pub verdict_dash : (text : List ℕ) (at phase number : ℕ) (t : List ℕ) (a : ℕ) (u : List ℕ) (b : ℕ) → (phase ≡ decided → ⊥) → Wrote text at (32 ∷ []) t a → Wrote t a (45 ∷ []) u b → Wrote text at (verdict_field phase number) u b
+pub verdict_dash : (p q : Page) (phase number : ℕ) → (phase ≡ decided → ⊥) → Puts p (32 ∷ 45 ∷ []) q → Puts p (verdict_field phase number) q
 unfolding verdict_field
-verdict_dash text at phase number t a u b d v w = rw (ne_eqb phase decided d) (wrote_then v w)
+verdict_dash p q phase number d h = rw (ne_eqb phase decided d) h
 
-pub verdict_of : {text : List ℕ} {at : ℕ} {t : List ℕ} {a x y : ℕ} (phase : ℕ) → x ≡ y → Wrote text at (verdict_field phase x) t a → Wrote text at (verdict_field phase y) t a
-verdict_of {text} {at} {t} {a} phase e w = subst (λ (z : ℕ). Wrote text at (verdict_field phase z) t a) e w
+pub verdict_of : {p q : Page} {x y : ℕ} (phase : ℕ) → x ≡ y → Puts p (verdict_field phase x) q → Puts p (verdict_field phase y) q
+verdict_of {p} {q} phase e h = subst (λ (z : ℕ). Puts p (verdict_field phase z) q) e h
 
 pub length-rank : (dead i : ℕ) (r : Rank) → length (rank_line dead i r) ≤ 57
 unfolding rank_line

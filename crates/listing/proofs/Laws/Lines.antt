@@ -5,24 +5,36 @@ use native.Mathlib.Omega.{arith}
 use lib.ListN.{length, get_or, length-append}
 use Rattle.state.specs.declared.State.{State}
 use Rattle.state.specs.States.{zero_rank}
-use Rattle.text.specs.Text.{Wrote, lines}
-use Rattle.text.proofs.Laws.Writing.{wrote_room}
-use Rattle.text.proofs.Laws.Lines.{Lining, length-lines, lining_start}
+use Rattle.text.specs.Text.{lines}
+use Rattle.text.specs.Pages.{Puts, HasRoom, Lines}
+use Rattle.text.specs.declared.Page.{Page}
+use Rattle.text.proofs.Laws.Writing.{room_after}
+use Rattle.text.proofs.Laws.Lines.{length-lines}
+use Rattle.rank.specs.declared.Rank.{Rank}
 use Rattle.lines.specs.Lines.{first_line, event_line, rank_line, last_line}
 use Rattle.listing.specs.Listings.{rank_lines, listing}
 use Rattle.lines.proofs.Laws.Lines.{length-event, length-rank, length-first, length_last}
 
-pub events_start : (answers text : List ℕ) (at events : ℕ) → at + 44 * events ≤ length text → Lining (event_line answers) 44 events text at text at 0
-events_start answers text at events r = lining_start (event_line answers) 44 events text at (length-event answers) (omega arith)
+-- an event's line, and a rank's
+abbrev pub event_lines : List ℕ → Lines
+event_lines answers = record { line = event_line answers; most = 44; short = length-event answers }
 
-pub room_events : (text : List ℕ) (n events : ℕ) (t : List ℕ) (a : ℕ) → 50 + 44 * events + 57 * n ≤ length text → Wrote text 0 (first_line n events) t a → a + 44 * events + (57 * n + 13) ≤ length t
-room_events text n events t a r w = omega (arith, wrote_room 37 (44 * events + (57 * n + 13)) w (length-first n events) (omega arith))
+abbrev pub ranks_lines : ℕ → List Rank → Lines
+ranks_lines dead ranks = record {
+  line = λ i. rank_line dead i (get_or ranks i zero_rank);
+  most = 57;
+  short = λ i. length-rank dead i (get_or ranks i zero_rank);
+}
 
-pub room-ranks : (text : List ℕ) (at : ℕ) (answers : List ℕ) (n events : ℕ) (t : List ℕ) (a : ℕ) → at + 44 * events + (57 * n + 13) ≤ length text → Wrote text at (lines (event_line answers) events) t a → a + (57 * n + 13) ≤ length t
-room-ranks text at answers n events t a r w = wrote_room (events * 44) (57 * n + 13) w (length-lines (event_line answers) 44 events (length-event answers)) (omega arith)
+-- the room after the first line, the event lines and the rank lines of a listing
+pub room_events : {p q : Page} (n events : ℕ) → HasRoom p (50 + 44 * events + 57 * n) → Puts p (first_line n events) q → HasRoom q (44 * events + (57 * n + 13))
+room_events n events r h = omega (arith, room_after 37 (44 * events + (57 * n + 13)) h (length-first n events) (omega arith))
 
-pub room_last : (text : List ℕ) (at : ℕ) (f : ℕ → List ℕ) (n : ℕ) (t : List ℕ) (a : ℕ) → ((i : ℕ) → length (f i) ≤ 57) → at + (57 * n + 13) ≤ length text → Wrote text at (lines f n) t a → a + 13 ≤ length t
-room_last text at f n t a h r w = wrote_room (n * 57) 13 w (length-lines f 57 n h) (omega arith)
+pub room_ranks : {p q : Page} (answers : List ℕ) (n events : ℕ) → HasRoom p (44 * events + (57 * n + 13)) → Puts p (lines (event_line answers) events) q → HasRoom q (57 * n + 13)
+room_ranks answers n events r h = room_after (44 * events) (57 * n + 13) h (omega (arith, length-lines (event_line answers) 44 events (length-event answers))) r
+
+pub room_last : {p q : Page} (dead : ℕ) (ranks : List Rank) (n : ℕ) → HasRoom p (57 * n + 13) → Puts p (lines (λ i. rank_line dead i (get_or ranks i zero_rank)) n) q → HasRoom q 13
+room_last dead ranks n r h = room_after (57 * n) 13 h (omega (arith, length-lines (λ i. rank_line dead i (get_or ranks i zero_rank)) 57 n (ranks_lines dead ranks).short)) r
 
 pub length-listing : (events : ℕ) (answers : List ℕ) (s : State) → length (listing events answers s) ≤ 50 + 44 * events + 57 * s.group.n
 unfolding listing rank_lines

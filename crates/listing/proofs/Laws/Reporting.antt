@@ -1,5 +1,5 @@
 -- The report along its code. Assumes nothing.
-use mathlib.Core.Path.{◌≡◌, refl, sym, subst, ◌∙◌}
+use mathlib.Core.Path.{◌≡◌, refl, sym, ap, subst, ◌∙◌}
 use mathlib.Core.Bool.{cond}
 use mathlib.Core.List.{List}
 use mathlib.Core.Logic.{◌⊎◌, inl, inr}
@@ -7,13 +7,18 @@ use Prim.Native.Nat.{ℕ, ◌≤◌}
 use native.Mathlib.Omega.{arith}
 use lib.Dec.{eqb}
 use lib.ListN.{length}
-use borrow.Author.Tests.{eq-eqb, ne_eqb}
+use borrow.Author.Tests.{eq-eqb, ne_eqb, eqb-false}
+use Rattle.std.specs.Prelude.{Ok, Err}
+use Rattle.answers.specs.Answers.{number}
+use Rattle.answers.proofs.Laws.Numbers.{number-not_0}
 use Rattle.sets.proofs.Laws.Bools.{eq_or_ne}
 use Rattle.state.specs.declared.State.{State}
 use Rattle.text.specs.Text.{Wrote}
 use Rattle.text.proofs.Laws.Writing.{wrote_kept}
 use Rattle.files.specs.Files.{events_in}
-use Rattle.schedule.specs.Runs.{run}
+use Rattle.state.specs.declared.Refused.{Refused}
+use Rattle.playing.specs.Playing.{Run}
+use Rattle.schedule.specs.Runs.{run, told}
 use Rattle.schedule.proofs.Laws.Ending.{run-ended}
 use Rattle.lines.specs.Lines.{refused_line}
 use Rattle.listing.specs.Listings.{text_room, listing, report_of, report}
@@ -35,6 +40,15 @@ pub report-listed : (file out : List ℕ) (a : ℕ) (s : State) (answers : List 
     → a ≡ 0 → events ≡ events_in file → Wrote text 0 (listing events answers s) t next → Wrote text 0 (report file out) t next
 unfolding report report_of
 report-listed file out a s answers events text t next ea es ev z ee w = rw (sym ea ∙ z) (subst (λ (l : List ℕ). Wrote text 0 l t next) (rw (ee, ev, es)) w)
+
+-- the two answers of a run
+pub report_told : (file out : List ℕ) (r : Refused) (answers text t : List ℕ) (next : ℕ) → told (Err r) answers ≡ run file out → Wrote text 0 (refused_line (number r.refusal)) t next → Wrote text 0 (report file out) t next
+report_told file out r answers text t next e w = report-refused file out (number r.refusal) text t next (ap (λ (x : Run). x.answer) e) (eqb-false (number r.refusal) 0 (number-not_0 r.refusal)) w
+
+pub listed_told : (file out : List ℕ) (s : State) (answers : List ℕ) (events : ℕ) (text t : List ℕ) (next : ℕ) → told (Ok s) answers ≡ run file out → events ≡ events_in file → Wrote text 0 (listing events answers s) t next
+    → Wrote text 0 (report file out) t next
+listed_told file out s answers events text t next e ee w =
+    report-listed file out 0 s answers events text t next (ap (λ (x : Run). x.answer) e) (ap (λ (x : Run). x.state) e) (ap (λ (x : Run). x.answers) e) refl ee w
 
 -- A report fits the buffer that it asks for.
 report_short : (file out : List ℕ) → length (report file out) ≤ text_room

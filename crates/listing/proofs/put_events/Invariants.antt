@@ -1,11 +1,6 @@
--- `put_events` meets its contract: before line k the first k stand. Assumes nothing.
-use Prim.Native.Nat.{◌-◌}
-use Rattle.text.proofs.Laws.Lines.{Lining}
-use Rattle.lines.specs.Lines.{event_line}
+-- The lines that `put_events` puts.
+use Rattle.listing.proofs.Laws.Lines.{event_lines}
 use Rattle.listing.proofs.put_events.Given as goal
 
-abbrev pub invariant-loop-k : goal.invariant-loop-k
-invariant-loop-k l = Lining (event_line l.answers) 44 l.events l.initial.text l.at l.text l.next l.k
-
-abbrev pub decreases-loop-k : goal.decreases-loop-k
-decreases-loop-k l = l.events - l.k
+abbrev pub ghost-put_lines : goal.ghost-put_lines
+ghost-put_lines a = event_lines a.line.0.now

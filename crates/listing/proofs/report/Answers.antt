@@ -1,49 +1,34 @@
 -- `report` meets its contract: a refused run has its one line, an accepted one its listing. Assumes nothing.
-use mathlib.Core.Path.{sym}
+use borrow.Author.Rules.{rules}
 use native.Mathlib.Omega.{arith}
-use lib.Seq.{length-take-le}
-use Rattle.schedule.proofs.Laws.Ending.{run-ended}
-use Rattle.listing.proofs.Laws.Reporting.{report-refused, report-listed}
+use Rattle.text.proofs.Laws.Writing.{name_kept, page_ends}
+use Rattle.schedule.proofs.Laws.Ending.{told-ended}
+use Rattle.listing.proofs.Laws.Reporting.{report_told, listed_told}
 use Rattle.listing.proofs.report.Goals as goal
 
-pub slice_bounds-run-end : goal.slice_bounds-run-end
-slice_bounds-run-end c = sym (length-take-le _ _ c.requires.got_in_bounds)
-
-pub returns-then-ran-ne0-clause-wrote : goal.returns-then-ran-ne0-clause-wrote
-returns-then-ran-ne0-clause-wrote c = report-refused _ _ _ _ _ _ c.run-ran.ensures.answer_value c.if-ran-ne0.true c.put_refused.ensures
-
-pub returns-then-ran-ne0-clause-answers_after : goal.returns-then-ran-ne0-clause-answers_after
-returns-then-ran-ne0-clause-answers_after c = c.run-ran.ensures.out_after
-
-pub slice_bounds-events_in-end : goal.slice_bounds-events_in-end
-slice_bounds-events_in-end c = sym (length-take-le _ _ c.requires.got_in_bounds)
-
 pub events_in-requires-clause-in_bounds : goal.events_in-requires-clause-in_bounds
-events_in-requires-clause-in_bounds c = let e = run-ended _ _ _ _ _ c.run-ran.ensures.answer_value c.run-ran.ensures.state_value c.run-ran.ensures.out_after c.if-ran-ne0.false in
-    e.long
+events_in-requires-clause-in_bounds c = let e = told-ended _ _ _ _ c.in-Ok.ensures in e.long
 
 pub events_in-requires-clause-file_len_bound : goal.events_in-requires-clause-file_len_bound
-events_in-requires-clause-file_len_bound c = let e = run-ended _ _ _ _ _ c.run-ran.ensures.answer_value c.run-ran.ensures.state_value c.run-ran.ensures.out_after c.if-ran-ne0.false in
-    e.short
+events_in-requires-clause-file_len_bound c = let e = told-ended _ _ _ _ c.in-Ok.ensures in e.short
 
 pub list-requires-clause-n_in_bounds : goal.list-requires-clause-n_in_bounds
-list-requires-clause-n_in_bounds c = let e = run-ended _ _ _ _ _ c.run-ran.ensures.answer_value c.run-ran.ensures.state_value c.run-ran.ensures.out_after c.if-ran-ne0.false in
-    omega (arith, e.few, e.size, c.events_in.ensures, c.requires)
+list-requires-clause-n_in_bounds c = let e = told-ended _ _ _ _ c.in-Ok.ensures in omega (arith, e.few, e.size, c.events_in.ensures, c.requires)
 
 pub list-requires-clause-events_in_bounds : goal.list-requires-clause-events_in_bounds
-list-requires-clause-events_in_bounds c = let e = run-ended _ _ _ _ _ c.run-ran.ensures.answer_value c.run-ran.ensures.state_value c.run-ran.ensures.out_after c.if-ran-ne0.false in
-    omega (arith, e.room, c.events_in.ensures)
+list-requires-clause-events_in_bounds c = let e = told-ended _ _ _ _ c.in-Ok.ensures in omega (arith, e.room, c.events_in.ensures)
 
 pub list-requires-clause-events_bound : goal.list-requires-clause-events_bound
-list-requires-clause-events_bound c = let e = run-ended _ _ _ _ _ c.run-ran.ensures.answer_value c.run-ran.ensures.state_value c.run-ran.ensures.out_after c.if-ran-ne0.false in
-    omega (arith, e.few, c.events_in.ensures)
+list-requires-clause-events_bound c = let e = told-ended _ _ _ _ c.in-Ok.ensures in omega (arith, e.few, c.events_in.ensures)
 
 pub list-requires-clause-n_bound : goal.list-requires-clause-n_bound
-list-requires-clause-n_bound c = let e = run-ended _ _ _ _ _ c.run-ran.ensures.answer_value c.run-ran.ensures.state_value c.run-ran.ensures.out_after c.if-ran-ne0.false in
-    e.size
+list-requires-clause-n_bound c = let e = told-ended _ _ _ _ c.in-Ok.ensures in e.size
 
-pub returns-clause-wrote : goal.returns-clause-wrote
-returns-clause-wrote c = report-listed _ _ _ _ _ _ _ _ _ c.run-ran.ensures.answer_value c.run-ran.ensures.state_value c.run-ran.ensures.out_after c.if-ran-ne0.false c.events_in.ensures c.list.ensures
+pub returns-in-Ok-clause-wrote : goal.returns-in-Ok-clause-wrote
+returns-in-Ok-clause-wrote c = listed_told _ _ _ _ _ _ _ _ c.in-Ok.ensures c.events_in.ensures c.list.ensures
 
-pub returns-clause-answers_after : goal.returns-clause-answers_after
-returns-clause-answers_after c = c.run-ran.ensures.out_after
+pub returns-in-Err-clause-wrote : goal.returns-in-Err-clause-wrote
+returns-in-Err-clause-wrote c =
+    let p = rw c.number.ensures at c.put_refused.ensures in
+    let e = name_kept p in
+    report_told _ _ c.in-Err.refused _ _ _ _ c.in-Err.ensures (page_ends p (search rules))

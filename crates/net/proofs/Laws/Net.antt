@@ -1,30 +1,22 @@
 -- The 128 places along their code: one message taken out, and the messages of a send written from the first free place on.
 -- Assumes nothing.
 use mathlib.Core.Path.{◌≡◌, refl, sym, ap, ap₂, subst, ◌∙◌}
-use mathlib.Core.Bool.{cond}
 use mathlib.Core.List.{List, [], ◌∷◌, ◌++◌, append-nil}
 use mathlib.Core.Logic.{⊎_elim}
-use Prim.Native.Nat.{ℕ, suc, ◌+◌, ◌-◌, ◌≤◌, ◌<◌, ◌^◌}
+use Prim.Native.Nat.{ℕ, zero, suc, ◌+◌, ◌-◌, ◌≤◌, ◌<◌, ◌^◌}
 use native.Mathlib.Nat.{le_dest}
 use native.Mathlib.Numerals.{add-one}
 use native.Mathlib.Omega.{arith}
-use lib.Dec.{ltb}
-use lib.ListN.{length, get_or, set, take, drop, replicate, length-append, length-drop, length-set, length-replicate, get_or-replicate, get_or-append, get_or-eq_default}
-use lib.Seq.{get_or-append-add, get_or-take, get_or-drop, take-suc-set, set-append_seam, length-take-le, take_at, append_snoc}
-use borrow.Author.Tests.{lt-ltb, le-ltb}
-use Rattle.sets.specs.Sets.{none, has, only, minus, count, smallest}
+use lib.ListN.{length, get_or, set, take, drop, replicate, length-append, length-drop, length-replicate, get_or-replicate, get_or-append, get_or-eq_default}
+use lib.Seq.{get_or-append-add, take-suc, set-append_seam, length-take-le, take_at, append_snoc}
+use Rattle.sets.specs.Sets.{has, only, minus, count}
 use Rattle.sets.proofs.Laws.Bools.{lt-or-le}
-use Rattle.sets.proofs.Laws.Searches.{Smallest, first_member, count-first}
-use Rattle.tree.proofs.Laws.Rows.{Patched, patched_put, patched_end, row_is}
+use Rattle.sets.proofs.Laws.Searches.{Smallest, count-first}
 use Rattle.rank.specs.declared.Send.{Send}
 use Rattle.rank.specs.declared.Message.{Message}
 use Rattle.rank.specs.Sends.{letter, letters, size}
 use Rattle.rank.proofs.Laws.Letters.{letter_is, letters-first, letters-none}
-use Rattle.net.specs.Net.{Joined, zero_message, padded, without, joining}
-
--- past the places there is no message
-pub at-past : (l : List Message) (m place : ℕ) (r : Message) → length l ≡ m → m ≤ place → r ≡ zero_message → r ≡ get_or l place zero_message
-at-past l m place r e h f = f ∙ sym (get_or-eq_default l zero_message (let b : length l ≤ place = omega arith in b))
+use Rattle.net.specs.Net.{Joined, zero_message, padded, without, placed, joining}
 
 -- ---- padding
 
@@ -46,81 +38,16 @@ padded-past l k h = go (le_dest h)
     go : (j : ℕ) × (length l + j ≡ k) → get_or (l ++ replicate (128 - length l) zero_message) k zero_message ≡ zero_message
     go (j, e) = ap (λ (x : ℕ). get_or (l ++ replicate (128 - length l) zero_message) x zero_message) (sym e) ∙ get_or-append-add l (replicate (128 - length l) zero_message) j zero_message ∙ zeros_at (128 - length l) j
 
+-- and any place has the same in both
+pub padded_at : (l : List Message) (k : ℕ) → get_or (padded l) k zero_message ≡ get_or l k zero_message
+padded_at l k = ⊎_elim (λ (h : k < length l). padded_in l k h) (λ (h : length l ≤ k). padded-past l k h ∙ sym (get_or-eq_default l zero_message h)) (lt-or-le k (length l))
+
 -- the list of a padded one is what stands before its end
 pub padded-take : (l : List Message) → take (length l) (padded l) ≡ l
 unfolding padded
 padded-take l = take_at l (replicate (128 - length l) zero_message) (length l) refl
 
 -- ---- one message taken out
-
-pub shifted : List Message → ℕ → ℕ → Message
-shifted net place k = get_or net (cond (ltb k place) k (suc k)) zero_message
-
-pub record Shifting (net₀ : List Message) (c place i : ℕ) (net : List Message) : Type 0 where
-  pub low : place ≤ i
-  pub high : i < c
-  pub table : Patched zero_message (shifted net₀ place) (λ k. get_or net₀ k zero_message) 128 i net
-
-shifted_before : (net : List Message) (place k : ℕ) → k < place → shifted net place k ≡ get_or net k zero_message
-unfolding shifted
-shifted_before net place k l = rw (lt-ltb k place l)
-
-shifted_from : (net : List Message) (place k : ℕ) → place ≤ k → shifted net place k ≡ get_or net (suc k) zero_message
-unfolding shifted
-shifted_from net place k l = rw (le-ltb k place l)
-
-pub shifting_start : (net : List Message) (c place : ℕ) → length net ≡ 128 → place < c → Shifting net c place place net
-shifting_start net c place e l = record {
-  low = omega arith;
-  high = l;
-  table = record { long = e; done = λ k b d. sym (shifted_before net place k b); rest = λ k b d. refl };
-}
-
-pub shifting_step : (net₀ : List Message) (c place i : ℕ) (net : List Message) (v : Message) → c ≤ 128 → Shifting net₀ c place i net → i + 1 < c → v ≡ get_or net (i + 1) zero_message → Shifting net₀ c place (i + 1) (set net i v)
-shifting_step net₀ c place i net v b s l e = record {
-  low = omega (arith, s.low);
-  high = l;
-  table = patched_put zero_message (shifted net₀ place) (λ k. get_or net₀ k zero_message) 128 i v net s.table (omega arith)
-      (e ∙ s.table.rest (i + 1) (omega arith) (omega arith) ∙ ap (λ (x : ℕ). get_or net₀ x zero_message) (add-one i) ∙ sym (shifted_from net₀ place i s.low));
-}
-
--- the list without the message, place by place
-without_at : (net : List Message) (c place k : ℕ) → length net ≡ 128 → net ≡ padded (take c net) → c ≤ 128 → place < c → get_or (padded (without place (take c net))) k zero_message ≡ shifted net place k
-unfolding without
-without_at net c place k long pad b l = ⊎_elim before from (lt-or-le k place)
-  where
-    A : List Message
-    A = take place (take c net)
-
-    B : List Message
-    B = drop (suc place) (take c net)
-
-    ll : length (take c net) ≡ c
-    ll = length-take-le c net (omega arith)
-
-    la : length A ≡ place
-    la = length-take-le place (take c net) (omega (arith, ll))
-
-    lb : length B ≡ c - suc place
-    lb = length-drop (suc place) (take c net) ∙ ap (λ (x : ℕ). x - suc place) ll
-
-    lab : length (A ++ B) ≡ c - 1
-    lab = length-append A B ∙ (let e : length A + length B ≡ c - 1 = omega (arith, la, lb) in e)
-
-    before : k < place → get_or (padded (A ++ B)) k zero_message ≡ shifted net place k
-    before h = padded_in (A ++ B) k (omega (arith, lab)) ∙ get_or-append A B zero_message k (omega (arith, la)) ∙ get_or-take place (take c net) k zero_message h ∙ get_or-take c net k zero_message (omega arith) ∙ sym (shifted_before net place k h)
-
-    inside : (j : ℕ) → place + j ≡ k → suc k < c → get_or (padded (A ++ B)) k zero_message ≡ get_or net (suc k) zero_message
-    inside j e h =
-        let at : k ≡ length A + j = omega (arith, la) in
-        let to : suc place + j ≡ suc k = omega arith in
-        padded_in (A ++ B) k (omega (arith, lab)) ∙ ap (λ (x : ℕ). get_or (A ++ B) x zero_message) at ∙ get_or-append-add A B j zero_message ∙ get_or-drop (suc place) (take c net) j zero_message ∙ ap (λ (x : ℕ). get_or (take c net) x zero_message) to ∙ get_or-take c net (suc k) zero_message h
-
-    after : c ≤ suc k → get_or (padded (A ++ B)) k zero_message ≡ get_or net (suc k) zero_message
-    after h = padded-past (A ++ B) k (omega (arith, lab)) ∙ sym (ap (λ (x : List Message). get_or x (suc k) zero_message) pad ∙ padded-past (take c net) (suc k) (omega (arith, ll)))
-
-    from : place ≤ k → get_or (padded (A ++ B)) k zero_message ≡ shifted net place k
-    from h = ⊎_elim (λ (x : suc k < c). let d = le_dest h in inside d.0 d.1 x) after (lt-or-le (suc k) c) ∙ sym (shifted_from net place k h)
 
 pub length_without : (net : List Message) (c place : ℕ) → length net ≡ 128 → c ≤ 128 → place < c → length (without place (take c net)) ≡ c - 1
 unfolding without
@@ -129,15 +56,32 @@ length_without net c place long b l =
     length-append (take place (take c net)) (drop (suc place) (take c net))
     ∙ (let e : length (take place (take c net)) + length (drop (suc place) (take c net)) ≡ c - 1 = omega (arith, length-take-le place (take c net) (omega arith), length-drop (suc place) (take c net)) in e)
 
-pub shifting_end : (net₀ : List Message) (c place i : ℕ) (net : List Message) (v : Message) → length net₀ ≡ 128 → net₀ ≡ padded (take c net₀) → c ≤ 128 → Shifting net₀ c place i net → c ≤ i + 1 → v ≡ zero_message → set net i v ≡ padded (without place (take c net₀))
-shifting_end net₀ c place i net v long pad b s l e =
-    let pl : place < c = omega (arith, s.low, s.high) in
-    let fin : Patched zero_message (shifted net₀ place) (λ k. get_or net₀ k zero_message) 128 (i + 1) (set net i v) = patched_put zero_message (shifted net₀ place) (λ k. get_or net₀ k zero_message) 128 i v net s.table (omega (arith, s.high)) (e ∙ sym (shifted_from net₀ place i s.low ∙ past (suc i) (omega arith))) in
-    patched_end zero_message (shifted net₀ place) (λ k. get_or net₀ k zero_message) 128 (i + 1) (set net i v) fin (λ k h m. past k (omega arith) ∙ sym (shifted_from net₀ place k (omega (arith, s.low)) ∙ past (suc k) (omega arith)))
-    ∙ sym (row_is zero_message (shifted net₀ place) 128 (padded (without place (take c net₀))) (padded-long (without place (take c net₀)) (omega (arith, length_without net₀ c place long b pl))) (λ k h. without_at net₀ c place k long pad b pl))
-  where
-    past : (k : ℕ) → c ≤ k → get_or net₀ k zero_message ≡ zero_message
-    past k h = ap (λ (x : List Message). get_or x k zero_message) pad ∙ padded-past (take c net₀) k (omega (arith, length-take-le c net₀ (omega arith)))
+-- the place that its message leaves closes one further on
+closing : (c i : ℕ) (l : List Message) (d : Message) → suc i < c → suc i < length l → without (suc i) (take c (set l i (get_or l (suc i) d))) ≡ without i (take c l)
+unfolding without
+closing c i [] d h k = absurd (omega arith)
+closing c zero (x ∷ []) d h k = absurd (omega arith)
+closing zero i l d h k = absurd (omega arith)
+closing (suc zero) i l d h k = absurd (omega arith)
+closing (suc (suc c)) zero (x ∷ y ∷ l) d h k = refl
+closing (suc c) (suc i) (x ∷ l) d h k = ap (λ (t : List Message). x ∷ t) (closing c i l d (omega arith) (omega arith))
+
+-- and the last place just goes
+closed : (c : ℕ) (l : List Message) → suc c ≤ length l → without c (take (suc c) l) ≡ take c l
+unfolding without
+closed c [] h = absurd (omega arith)
+closed zero (x ∷ l) h = refl
+closed (suc c) (x ∷ l) h = ap (λ (t : List Message). x ∷ t) (closed c l (omega arith))
+
+pub closing_on : (c i j : ℕ) (l next want : List Message) → i + 1 < c → c ≤ length l → j ≡ i + 1 → next ≡ set l i (get_or l (i + 1) zero_message) → without i (take c l) ≡ want → without j (take c next) ≡ want
+closing_on c i j l next want a b e f g =
+    ap₂ (λ (k : ℕ) (t : List Message). without k (take c t)) (e ∙ add-one i) (f ∙ ap (λ (k : ℕ). set l i (get_or l k zero_message)) (add-one i)) ∙ closing c i l zero_message (omega arith) (omega arith) ∙ g
+
+pub closing_done : (c i : ℕ) (l want : List Message) → i < c → c ≤ i + 1 → c ≤ length l → without i (take c l) ≡ want → take (c - 1) l ≡ want
+closing_done c i l want a b h g =
+    let p : suc i ≡ c = omega arith in
+    let q : c - 1 ≡ i = omega arith in
+    ap (λ (k : ℕ). take k l) q ∙ sym (closed i l (omega arith)) ∙ ap (λ (k : ℕ). without i (take k l)) p ∙ g
 
 -- ---- the messages of a send written at the end
 
@@ -145,60 +89,58 @@ shifting_end net₀ c place i net v long pad b s l e =
 pub toward : Send → ℕ → Send
 toward s left = record { kind = s.kind; triple = s.triple; to = left }
 
-pub record Posting (net₀ : List Message) (c₀ me : ℕ) (s : Send) (c : ℕ) (net : List Message) (left : ℕ) : Type 0 where
-  pub long : length net ≡ 128
-  pub held : net ≡ padded (take c net)
-  pub rest : take c net ++ letters me (toward s left) ≡ take c₀ net₀ ++ letters me s
-  pub room : c + count (has left) 64 ≤ 128
+pub record Posting (l₀ : List Message) (me : ℕ) (s : Send) (l : List Message) (left : ℕ) : Type 0 where
+  pub rest : l ++ letters me (toward s left) ≡ l₀ ++ letters me s
+  pub room : length l + count (has left) 64 ≤ 128
   pub word : left < 2 ^ 64
 
-pub posting_start : (net : List Message) (c me : ℕ) (s : Send) → length net ≡ 128 → net ≡ padded (take c net) → c + size s ≤ 128 → s.to < 2 ^ 64 → Posting net c me s c net s.to
+pub posting_begin : (l : List Message) (me : ℕ) (s : Send) → length l + size s ≤ 128 → s.to < 2 ^ 64 → Posting l me s l s.to
 unfolding toward
-posting_start net c me s l p r w = record { long = l; held = p; rest = refl; room = r; word = w }
+posting_begin l me s r w = record { rest = refl; room = r; word = w }
 
 -- what is still to come begins with the message to that member
 letters-next : (me : ℕ) (s : Send) (left q : ℕ) → Smallest (has left) 64 q → letters me (toward s left) ≡ letter me s q ∷ letters me (toward s (minus left (only q)))
 unfolding toward
 letters-next me s left q m = letters-first me s left q m
 
--- one message more in the first free place
-padded_more : (net : List Message) (c : ℕ) (m : Message) → length net ≡ 128 → net ≡ padded (take c net) → c < 128 → set net c m ≡ padded (take c net ++ (m ∷ []))
-unfolding padded
-padded_more net c m long held h =
-    let lt : length (take c net) ≡ c = length-take-le c net (omega arith) in
-    let one : 128 - length (take c net) ≡ suc (128 - length (take c net ++ (m ∷ []))) = omega (arith, length-append (take c net) (m ∷ [])) in
-    ap₂ (λ (l : List Message) (i : ℕ). set l i m) (held ∙ ap (λ (k : ℕ). take c net ++ replicate k zero_message) one) (sym lt)
-    ∙ set-append_seam (take c net) zero_message (replicate (128 - length (take c net ++ (m ∷ []))) zero_message) m
-    ∙ sym (append_snoc (take c net) m (replicate (128 - length (take c net ++ (m ∷ []))) zero_message))
-
-posting_letter : (net₀ : List Message) (c₀ me : ℕ) (s : Send) (c : ℕ) (net : List Message) (left q o left' : ℕ) → Posting net₀ c₀ me s c net left → (left ≡ 0 → ⊥) → q ≡ smallest (has left) 64 none
-    → o ≡ only q → left' ≡ minus left o → left' < 2 ^ 64 → Posting net₀ c₀ me s (c + 1) (set net c (letter me s q)) left'
-posting_letter net₀ c₀ me s c net left q o left' p h e eo el w =
-    let m : Smallest (has left) 64 q = first_member left 64 none q p.word h e in
+pub posting_on : (l₀ : List Message) (me : ℕ) (s : Send) (l next : List Message) (left q o left' : ℕ) → Posting l₀ me s l left → Smallest (has left) 64 q
+    → next ≡ l ++ ((record { kind = s.kind; from = me; to = q; triple = s.triple }) ∷ []) → o ≡ only q → left' ≡ minus left o → left' < 2 ^ 64 → Posting l₀ me s next left'
+posting_on l₀ me s l next left q o left' p m en eo el w =
     let sz : count (has left) 64 ≡ suc (count (has (minus left (only q))) 64) = count-first left 64 q m in
-    let cl : c < 128 = omega (arith, p.room) in
     let to : left' ≡ minus left (only q) = el ∙ ap (minus left) eo in
-    let took : take (c + 1) (set net c (letter me s q)) ≡ take c net ++ (letter me s q ∷ []) = ap (λ (k : ℕ). take k (set net c (letter me s q))) (add-one c) ∙ take-suc-set net c (letter me s q) (omega (arith, p.long)) in
+    let new : next ≡ l ++ (letter me s q ∷ []) = en ∙ ap (λ (x : Message). l ++ (x ∷ [])) (sym (letter_is me s q)) in
     record {
-      long = length-set net c (letter me s q) ∙ p.long;
-      held = padded_more net c (letter me s q) p.long p.held cl ∙ ap padded (sym took);
-      rest = ap₂ (λ (a : List Message) (b : ℕ). a ++ letters me (toward s b)) took to ∙ append_snoc (take c net) (letter me s q) (letters me (toward s (minus left (only q)))) ∙ ap (λ (l : List Message). take c net ++ l) (sym (letters-next me s left q m)) ∙ p.rest;
-      room = subst (λ (x : ℕ). c + 1 + count (has x) 64 ≤ 128) (sym to) (omega (arith, p.room));
+      rest = ap₂ (λ (a : List Message) (b : ℕ). a ++ letters me (toward s b)) new to ∙ append_snoc l (letter me s q) (letters me (toward s (minus left (only q)))) ∙ ap (λ (x : List Message). l ++ x) (sym (letters-next me s left q m)) ∙ p.rest;
+      room = subst (λ (x : ℕ). length next + count (has x) 64 ≤ 128) (sym to) (omega (arith, p.room, ap length new, length-append l (letter me s q ∷ [])));
       word = w;
     }
 
--- the same, with the message in fields
-pub posting_step : (net₀ : List Message) (c₀ me : ℕ) (s : Send) (c : ℕ) (net : List Message) (left q o left' : ℕ) → Posting net₀ c₀ me s c net left → (left ≡ 0 → ⊥) → q ≡ smallest (has left) 64 none
-    → o ≡ only q → left' ≡ minus left o → left' < 2 ^ 64 → Posting net₀ c₀ me s (c + 1) (set net c (record { kind = s.kind; from = me; to = q; triple = s.triple })) left'
-posting_step net₀ c₀ me s c net left q o left' p h e eo el w = subst (λ (m : Message). Posting net₀ c₀ me s (c + 1) (set net c m) left') (letter_is me s q) (posting_letter net₀ c₀ me s c net left q o left' p h e eo el w)
+pub posting_fewer : (left q o left' : ℕ) → Smallest (has left) 64 q → o ≡ only q → left' ≡ minus left o → count (has left') 64 < count (has left) 64
+posting_fewer left q o left' m eo el = subst (λ (x : ℕ). count (has x) 64 < count (has left) 64) (sym (el ∙ ap (minus left) eo)) (omega (arith, count-first left 64 q m))
 
-pub posting_place : (net₀ : List Message) (c₀ me : ℕ) (s : Send) (c : ℕ) (net : List Message) (left q : ℕ) → Posting net₀ c₀ me s c net left → (left ≡ 0 → ⊥) → q ≡ smallest (has left) 64 none → c < 128
-posting_place net₀ c₀ me s c net left q p h e = omega (arith, p.room, count-first left 64 q (first_member left 64 none q p.word h e))
+pub posting_room : (l₀ : List Message) (me : ℕ) (s : Send) (l : List Message) (left q : ℕ) → Posting l₀ me s l left → Smallest (has left) 64 q → length l < 128
+posting_room l₀ me s l left q p m = omega (arith, p.room, count-first left 64 q m)
 
-pub posting_end : (net₀ : List Message) (c₀ me : ℕ) (s : Send) (c : ℕ) (net : List Message) (left : ℕ) → Posting net₀ c₀ me s c net left → left ≡ 0 → ◌≡◌ {A = Joined} (record { net = net; count = c }) (joining (take c₀ net₀) me s)
+pub posting_done : (l₀ : List Message) (me : ℕ) (s : Send) (l : List Message) (left : ℕ) → Posting l₀ me s l left → left ≡ 0 → placed l ≡ joining l₀ me s
 unfolding joining toward
-posting_end net₀ c₀ me s c net left p e =
-    let none' : letters me (toward s left) ≡ [] = letters-none me (toward s left) e in
-    let all : take c net ≡ take c₀ net₀ ++ letters me s = sym (append-nil (take c net)) ∙ ap (λ (l : List Message). take c net ++ l) (sym none') ∙ p.rest in
-    let lc : c ≡ length (take c net) = sym (length-take-le c net (omega (arith, p.room, p.long))) in
-    λ i. record { net = (p.held ∙ ap padded all) i; count = (lc ∙ ap length all) i }
+posting_done l₀ me s l left p e = ap placed (sym (append-nil l) ∙ ap (λ (x : List Message). l ++ x) (sym (letters-none me (toward s left) e)) ∙ p.rest)
+
+-- a list is known by its places and its length
+pub placed_same : (a b : List Message) → placed a ≡ placed b → a ≡ b
+placed_same a b e = sym (padded-take a) ∙ ap₂ (λ (x : ℕ) (y : List Message). take x y) (ap (λ (x : Joined). x.count) e) (ap (λ (x : Joined). x.net) e) ∙ padded-take b
+
+-- one message more in the first free place
+pub padded_more : (l : List Message) (m : Message) → length l < 128 → set (padded l) (length l) m ≡ padded (l ++ (m ∷ []))
+unfolding padded
+padded_more l m h =
+    let one : 128 - length l ≡ suc (128 - length (l ++ (m ∷ []))) = omega (arith, length-append l (m ∷ [])) in
+    ap (λ (k : ℕ). set (l ++ replicate k zero_message) (length l) m) one
+    ∙ set-append_seam l zero_message (replicate (128 - length (l ++ (m ∷ []))) zero_message) m
+    ∙ sym (append_snoc l m (replicate (128 - length (l ++ (m ∷ []))) zero_message))
+
+-- a list filled up to a place, and one place further
+pub padded_on : (l : List Message) (i : ℕ) (found : List Message) (m : Message) → length l ≤ 128 → i < length l → found ≡ padded (take i l) → m ≡ get_or l i zero_message → set found i m ≡ padded (take (i + 1) l)
+padded_on l i found m h b e f =
+    let at : i ≡ length (take i l) = sym (length-take-le i l (omega arith)) in
+    ap₂ (λ (t : List Message) (k : ℕ). set t k m) e at ∙ padded_more (take i l) m (omega arith)
+    ∙ ap padded (ap (λ (x : Message). take i l ++ (x ∷ [])) f ∙ sym (take-suc l i zero_message b) ∙ ap (λ (k : ℕ). take k l) (sym (add-one i)))

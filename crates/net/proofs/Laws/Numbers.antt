@@ -1,21 +1,17 @@
 -- Messages as numbers: what an array of them holds, place by place, and the list's laws read off it. Assumes nothing.
-use mathlib.Core.Path.{◌≡◌, refl, sym, ap, subst, ◌∙◌}
-use mathlib.Core.List.{List}
+use mathlib.Core.Path.{◌≡◌, sym, ap, ap₂, subst, ◌∙◌}
+use mathlib.Core.List.{List, [], ◌∷◌, ◌++◌}
 use mathlib.Core.Logic.{⊎_elim}
-use Prim.Native.Nat.{ℕ, zero, suc, ◌+◌, ◌*◌, ◌/◌, ◌%◌, ◌^◌, ◌≤◌, ◌<◌}
+use Prim.Native.Nat.{ℕ, ◌+◌, ◌*◌, ◌/◌, ◌%◌, ◌^◌, ◌≤◌, ◌<◌}
 use native.Mathlib.Nat.{le_dest}
 use native.Mathlib.Omega.{arith}
-use lib.ListN.{length, get_or, set, take, replicate, length-set, length-replicate, get_or-eq_default}
-use lib.Seq.{length-take-le, take_all, ext_get_or, get_or-set_same, get_or-set_other}
-use Rattle.sets.specs.Sets.{none, has, only, minus, smallest}
+use native.Mathlib.Numerals.{add-one}
+use lib.ListN.{length, get_or, set, take, length-set}
+use lib.Seq.{length-take-le, ext_get_or, get_or-set_same, get_or-set_other, get_or-take, take-suc, take-suc-set}
 use Rattle.sets.proofs.Laws.Bools.{lt-or-le, eq_or_ne}
-use Rattle.tree.specs.Tree.{row}
-use Rattle.tree.proofs.Laws.Rows.{Patched, patched_start, patched_put, patched_end, row_replicate, row_is, row_cong, length-row, get_d_row}
-use Rattle.rank.specs.declared.Send.{Send}
+use Rattle.tree.proofs.Laws.Rows.{row_is, length-row, get_d_row}
 use Rattle.rank.specs.declared.Message.{Message}
-use Rattle.rank.specs.Sends.{size}
-use Rattle.net.specs.Net.{Joined, zero_message, padded, without, joining, message_of, messages_of, Small}
-use Rattle.net.proofs.Laws.Net.{padded-long, padded-past, Shifting, shifting_start, shifting_step, shifting_end, Posting, posting_start, posting_step, posting_end}
+use Rattle.net.specs.Net.{in_flight, zero_message, message_of, messages_of}
 
 -- ---- what three numbers put at a place do to the list
 
@@ -85,45 +81,16 @@ number_is m r k f t w e = λ i. record { kind = kind_is i; from = from_is i; to 
     word_is : r / 16777216 % 4294967296 ≡ m.triple.word
     word_is = omega arith
 
--- and it is small
-pub number_small : (k f t w r : ℕ) → k < 256 → f < 256 → t < 256 → w < 4294967296 → r ≡ k + 256 * f + 65536 * t + 16777216 * w → r < 2 ^ 56
-number_small k f t w r a b c d e = omega arith
+-- ---- along the code of `pull`: the second and third number are read once the ones before them are written
 
--- ---- small numbers
-
--- a number below a bound is put somewhere, and what stands at k is below it
-below_set : (x : List ℕ) (i v k bound : ℕ) → 0 < bound → v < bound → get_or x k 0 < bound → get_or (set x i v) k 0 < bound
-below_set x i v k bound z l h = ⊎_elim here (λ (d : k ≡ i → ⊥). subst (λ (y : ℕ). y < bound) (sym (get_or-set_other x i k v 0 d)) h) (eq_or_ne k i)
-  where
-    here : k ≡ i → get_or (set x i v) k 0 < bound
-    here e = ⊎_elim
-        (λ (b : i < length x). subst (λ (y : ℕ). y < bound) (sym (ap (λ (j : ℕ). get_or (set x i v) j 0) e ∙ get_or-set_same x i v 0 b)) l)
-        (λ (b : length x ≤ i). subst (λ (y : ℕ). y < bound) (sym (get_or-eq_default (set x i v) 0 (let c : length (set x i v) ≤ k = omega (arith, length-set x i v) in c))) z)
-        (lt-or-le i (length x))
-
-zeros_at : (m i : ℕ) → ◌≡◌ {A = ℕ} (get_or (replicate m 0) i 0) 0
-zeros_at zero i = refl
-zeros_at (suc m) zero = refl
-zeros_at (suc m) (suc i) = zeros_at m i
-
-pub small_zeros : Small (replicate 384 0)
-small_zeros = record { long = length-replicate {A = ℕ} 384 0; first = λ i l. omega (arith, zeros_at 384 i); bound = λ i. omega (arith, zeros_at 384 i) }
-
-pub small-three : (x : List ℕ) (i a b c : ℕ) → i < 128 → Small x → a < 2 ^ 56 → b < 2 ^ 64 → c < 2 ^ 64 → Small (three x i a b c)
-small-three x i a b c l h la lb lc = record {
-  long = length-set (set (set x i a) (128 + i) b) (256 + i) c ∙ length-set (set x i a) (128 + i) b ∙ length-set x i a ∙ h.long;
-  first = λ k d. subst (λ (y : ℕ). y < 2 ^ 56) (sym (get_or-set_other (set (set x i a) (128 + i) b) (256 + i) k c 0 (λ e. omega arith) ∙ get_or-set_other (set x i a) (128 + i) k b 0 (λ e. omega arith))) (below_set x i a k (2 ^ 56) (omega arith) la (h.first k d));
-  bound = λ k. below_set (set (set x i a) (128 + i) b) (256 + i) c k (2 ^ 64) (omega arith) lc (below_set (set x i a) (128 + i) b k (2 ^ 64) (omega arith) lb (below_set x i a k (2 ^ 64) (omega arith) (omega arith) (h.bound k)));
-}
-
--- ---- along the code of `put` and `pull`
-
-pub put_three : (x : List ℕ) (i a b c : ℕ) (m : Message) → i < 128 → Small x → a < 2 ^ 56 → b < 2 ^ 64 → c < 2 ^ 64 → message_of a b c ≡ m → Small (three x i a b c) × (messages_of (three x i a b c) ≡ set (messages_of x) i m)
-put_three x i a b c m l h la lb lc e = (small-three x i a b c l h la lb lc, messages-three x i a b c h.long l m e)
-
-pub pull-three : (x : List ℕ) (i : ℕ) → i + 1 < 128 → Small x → Small (three x i (get_or x (i + 1) 0) (get_or x (128 + (i + 1)) 0) (get_or x (256 + (i + 1)) 0))
-    × (messages_of (three x i (get_or x (i + 1) 0) (get_or x (128 + (i + 1)) 0) (get_or x (256 + (i + 1)) 0)) ≡ set (messages_of x) i (get_or (messages_of x) (i + 1) zero_message))
-pull-three x i l h = put_three x i (get_or x (i + 1) 0) (get_or x (128 + (i + 1)) 0) (get_or x (256 + (i + 1)) 0) (get_or (messages_of x) (i + 1) zero_message) (omega arith) h (h.first (i + 1) l) (h.bound (128 + (i + 1))) (h.bound (256 + (i + 1))) (messages-at x (i + 1) l)
+pub pull-three : (x : List ℕ) (i b c : ℕ) → i + 1 < 128 → length x ≡ 384 → b ≡ get_or (set x i (get_or x (i + 1) 0)) (128 + (i + 1)) 0 → c ≡ get_or (set (set x i (get_or x (i + 1) 0)) (128 + i) b) (256 + (i + 1)) 0
+    → messages_of (three x i (get_or x (i + 1) 0) b c) ≡ set (messages_of x) i (get_or (messages_of x) (i + 1) zero_message)
+pull-three x i b c l long e f =
+    let second : b ≡ get_or x (128 + (i + 1)) 0 = e ∙ get_or-set_other x i (128 + (i + 1)) (get_or x (i + 1) 0) 0 (λ z. omega arith) in
+    let third : c ≡ get_or x (256 + (i + 1)) 0 =
+    f ∙ get_or-set_other (set x i (get_or x (i + 1) 0)) (128 + i) (256 + (i + 1)) b 0 (λ z. omega arith)
+    ∙ get_or-set_other x i (256 + (i + 1)) (get_or x (i + 1) 0) 0 (λ z. omega arith) in
+    messages-three x i (get_or x (i + 1) 0) b c long (omega arith) (get_or (messages_of x) (i + 1) zero_message) (rw (second, third) (messages-at x (i + 1) l))
 
 -- small numbers with the same messages are the same
 spread : (a : ℕ) → a < 2 ^ 56 → a ≡ a % 256 + 256 * (a / 256 % 256) + 65536 * (a / 65536 % 256) + 16777216 * (a / 16777216 % 4294967296)
@@ -135,6 +102,12 @@ spread a l =
     let i : a / 256 ≡ a / 256 % 256 + 256 * (a / 65536) = omega arith in
     let j : a ≡ a % 256 + 256 * (a / 256) = omega arith in
     omega arith
+
+-- There are 384 of them, of eight bytes, and the first of a message has seven.
+pub record Small (numbers : List ℕ) : Type 0 where
+  pub long : length numbers ≡ 3 * in_flight
+  pub first : (i : ℕ) → i < in_flight → get_or numbers i 0 < 2 ^ 56
+  pub bound : (i : ℕ) → get_or numbers i 0 < 2 ^ 64
 
 same_number : (a b k l m n : ℕ) → a < 2 ^ 56 → b < 2 ^ 56 → message_of a k l ≡ message_of b m n → (a ≡ b) × (k ≡ m) × (l ≡ n)
 unfolding message_of
@@ -156,71 +129,18 @@ same_numbers x y h k e = ext_get_or 0 x y (h.long ∙ sym k.long) (λ i l. ⊎_e
     third : (i : ℕ) → 256 ≤ i → i < 384 → get_or x i 0 ≡ get_or y i 0
     third i b c = let d = le_dest b in subst (λ (j : ℕ). get_or x j 0 ≡ get_or y j 0) d.1 (alike d.0 (omega (arith, d.1))).2
 
--- ---- a list copied place by place: the first i places are filled, the others still zero
+-- ---- the list that the numbers hold
 
-pub record Copying (l : List Message) (c i : ℕ) (found : List Message) : Type 0 where
-  pub within : i ≤ c
-  pub table : Patched zero_message (λ k. get_or l k zero_message) (λ k. zero_message) 128 i found
+pub flight-long : (x : List ℕ) (c : ℕ) → c ≤ 128 → length (take c (messages_of x)) ≡ c
+flight-long x c l = length-take-le c (messages_of x) (omega (arith, messages-long x))
 
-pub copying_start : (l : List Message) (c : ℕ) (v : Message) → v ≡ zero_message → Copying l c 0 (replicate 128 v)
-copying_start l c v e = record { within = omega arith; table = patched_start zero_message (λ k. get_or l k zero_message) (λ k. zero_message) 128 (replicate 128 v) (ap (replicate 128) e ∙ row_replicate 128 zero_message zero_message) }
+pub flight_at : (x : List ℕ) (c place : ℕ) → c ≤ 128 → place < c → message_of (get_or x place 0) (get_or x (128 + place) 0) (get_or x (256 + place) 0) ≡ get_or (take c (messages_of x)) place zero_message
+flight_at x c place b l = messages-at x place (omega arith) ∙ sym (get_or-take c (messages_of x) place zero_message l)
 
-pub copying_put : (l : List Message) (c i : ℕ) (found : List Message) (m : Message) → Copying l c i found → i < c → c ≤ 128 → m ≡ get_or l i zero_message → Copying l c (i + 1) (set found i m)
-copying_put l c i found m h b d e = record { within = omega arith; table = patched_put zero_message (λ k. get_or l k zero_message) (λ k. zero_message) 128 i m found h.table (omega arith) e }
+pub flight_more : (x y : List ℕ) (c : ℕ) (m : Message) → c < 128 → messages_of y ≡ set (messages_of x) c m → take (c + 1) (messages_of y) ≡ take c (messages_of x) ++ (m ∷ [])
+flight_more x y c m l e = ap₂ (λ (k : ℕ) (t : List Message). take k t) (add-one c) e ∙ take-suc-set (messages_of x) c m (omega (arith, messages-long x))
 
-pub copying_end : (l : List Message) (c i : ℕ) (found : List Message) → Copying l c i found → c ≤ i → c ≤ 128 → length l ≡ 128 → l ≡ padded (take c l) → found ≡ l
-copying_end l c i found h b d long pad =
-    patched_end zero_message (λ k. get_or l k zero_message) (λ k. zero_message) 128 i found h.table (λ k x y. sym (past k (omega arith)))
-    ∙ sym (row_is zero_message (λ k. get_or l k zero_message) 128 l long (λ k x. refl))
-  where
-    past : (k : ℕ) → c ≤ k → get_or l k zero_message ≡ zero_message
-    past k x = ap (λ (t : List Message). get_or t k zero_message) pad ∙ padded-past (take c l) k (omega (arith, length-take-le c l (omega arith)))
-
--- the same into numbers: what is put is a message
-pub numbering_start : (l : List Message) (c : ℕ) → Copying l c 0 (messages_of (replicate 384 0))
-unfolding messages_of message_of
-numbering_start l c = subst (Copying l c 0) (zeros 128) (copying_start l c zero_message refl)
-  where
-    zeros : (m : ℕ) → replicate m zero_message ≡ row (λ i. message_of (get_or (replicate 384 0) i 0) (get_or (replicate 384 0) (128 + i) 0) (get_or (replicate 384 0) (256 + i) 0)) m
-    zeros m = row_replicate m zero_message zero_message ∙ row_cong zero_message (λ k. zero_message) (λ i. message_of (get_or (replicate 384 0) i 0) (get_or (replicate 384 0) (128 + i) 0) (get_or (replicate 384 0) (256 + i) 0)) m (λ k l. rw (zeros_at 384 k, zeros_at 384 (128 + k), zeros_at 384 (256 + k)))
-
-pub numbering_put : (l : List Message) (c i : ℕ) (found next : List Message) (m : Message) → Copying l c i found → i < c → c ≤ 128 → m ≡ get_or l i zero_message → next ≡ set found i m → Copying l c (i + 1) next
-numbering_put l c i found next m h b d e f = subst (Copying l c (i + 1)) (sym f) (copying_put l c i found m h b d e)
-
--- a list in its places has 128 of them
-pub held-long : (l : List Message) (c : ℕ) → c ≤ 128 → l ≡ padded (take c l) → length l ≡ 128
-held-long l c b e = ap length e ∙ padded-long (take c l) (⊎_elim (λ (h : length l < c). short h) (λ (h : c ≤ length l). omega (arith, length-take-le c l h)) (lt-or-le (length l) c))
-  where
-    short : length l < c → length (take c l) ≤ 128
-    short h = let f : length (take c l) ≡ length l = ap length (take_all c l (omega arith)) in omega arith
-
--- ---- one message taken out
-
-pub shifting_begin : (l : List Message) (c place : ℕ) → l ≡ padded (take c l) → c ≤ 128 → place < c → Shifting l c place place l
-shifting_begin l c place e b h = shifting_start l c place (held-long l c b e) h
-
-pub shifting_on : (l : List Message) (c place i : ℕ) (net next : List Message) → c ≤ 128 → Shifting l c place i net → i + 1 < c → next ≡ set net i (get_or net (i + 1) zero_message) → Shifting l c place (i + 1) next
-shifting_on l c place i net next b s h e = subst (Shifting l c place (i + 1)) (sym e) (shifting_step l c place i net (get_or net (i + 1) zero_message) b s h refl)
-
-pub shifting_done : (l : List Message) (c place i : ℕ) (net next : List Message) (m : Message) → l ≡ padded (take c l) → c ≤ 128 → Shifting l c place i net → c ≤ i + 1 → m ≡ zero_message → next ≡ set net i m
-    → next ≡ padded (without place (take c l))
-shifting_done l c place i net next m pad b s h z e = e ∙ shifting_end l c place i net m (held-long l c b pad) pad b s h z
-
-pub shifting_place : (l : List Message) (c place i : ℕ) (net : List Message) → c ≤ 128 → Shifting l c place i net → i < 128
-shifting_place l c place i net b s = omega (arith, s.high)
-
--- ---- the messages of a send written at the end
-
-pub posting_begin : (l : List Message) (c me : ℕ) (s : Send) → l ≡ padded (take c l) → c + size s ≤ 128 → s.to < 2 ^ 64 → Posting l c me s c l s.to
-posting_begin l c me s p r w = posting_start l c me s (held-long l c (omega arith) p) p r w
-
-pub posting_on : (l : List Message) (c₀ me : ℕ) (s : Send) (c : ℕ) (net next : List Message) (left q o left' : ℕ) → Posting l c₀ me s c net left → (left ≡ 0 → ⊥) → q ≡ smallest (has left) 64 none
-    → next ≡ set net c (record { kind = s.kind; from = me; to = q; triple = s.triple }) → o ≡ only q → left' ≡ minus left o → left' < 2 ^ 64 → Posting l c₀ me s (c + 1) next left'
-posting_on l c₀ me s c net next left q o left' p h e en eo el w =
-    subst (λ (t : List Message). Posting l c₀ me s (c + 1) t left') (sym en) (posting_step l c₀ me s c net left q o left' p h e eo el w)
-
-pub posting_done : (l : List Message) (c₀ me : ℕ) (s : Send) (c : ℕ) (net : List Message) (left : ℕ) → Posting l c₀ me s c net left → left ≡ 0
-    → (c ≡ (joining (take c₀ l) me s).count) × (net ≡ (joining (take c₀ l) me s).net)
-posting_done l c₀ me s c net left p e =
-    let j = posting_end l c₀ me s c net left p e in
-    (ap (λ (x : Joined). x.count) j, ap (λ (x : Joined). x.net) j)
+pub flight_on : (x y : List ℕ) (l : List Message) (i : ℕ) → i < 128 → i < length l → take i (messages_of x) ≡ take i l → messages_of y ≡ set (messages_of x) i (get_or l i zero_message) → take (i + 1) (messages_of y) ≡ take (i + 1) l
+flight_on x y l i b h e f =
+    flight_more x y i (get_or l i zero_message) b f ∙ ap (λ (t : List Message). t ++ (get_or l i zero_message ∷ [])) e
+    ∙ sym (take-suc l i zero_message h) ∙ ap (λ (k : ℕ). take k l) (sym (add-one i))

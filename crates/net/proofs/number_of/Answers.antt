@@ -1,10 +1,7 @@
 -- `number_of` meets its contract: a number has the message that it was made of. Assumes nothing.
 use borrow.Author.Rules.{rules}
-use Rattle.net.proofs.Laws.Numbers.{number_is, number_small}
+use Rattle.net.proofs.Laws.Numbers.{number_is}
 use Rattle.net.proofs.number_of.Goals as goal
 
-pub returns-clause-acknowledged_value : goal.returns-clause-acknowledged_value
-returns-clause-acknowledged_value c = search (number_is, rules)
-
-pub returns-clause-upper_bound : goal.returns-clause-upper_bound
-returns-clause-upper_bound c = search (number_small, rules)
+pub returns : goal.returns
+returns c = search (number_is, rules)

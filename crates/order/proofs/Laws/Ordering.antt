@@ -8,7 +8,7 @@ use native.Mathlib.Omega.{arith}
 use lib.Dec.{eqb, ltb, leb}
 use lib.ListN.{length, get_or, take, replicate}
 use lib.Seq.{ext_get_or, get_or-take, length-take-le}
-use borrow.Author.Tests.{eqb-true, eqb-false, eq-eqb, ne_eqb, ltb-true, leb-true, le-leb, lt-ltb, le-ltb, not-true, not-false}
+use borrow.Author.Tests.{eqb-true, eqb-false, eq-eqb, ne_eqb, ltb-true, leb-true, le-leb, lt-ltb, le-ltb, not-true}
 use Rattle.sets.specs.Sets.{none, minus, below, every, all}
 use Rattle.sets.proofs.Laws.Bools.{and_assoc, and_true, eq_or_ne, and_i, and_l, and_r, not_i, fails, lt-or-le, cond_true, cond_false, all_head, all_tail, all_nil, all-step, all_cons, means, meant}
 use Rattle.sets.proofs.Laws.Members.{has-below-lt}
@@ -29,7 +29,7 @@ use Rattle.state.specs.declared.State.{State}
 use Rattle.state.specs.States.{zero_rank, rank_at, row_at, place_at, own_tree, with_box}
 use Rattle.order.proofs.Laws.Ranks.{within_o, within_i, below_o, below_i, triple_o, triple_i, zero_o, zero_i, rank_in_order_facts, facts_rank_in_order}
 use Rattle.order.specs.Order.{rank_in_order, is_within, triple_within, is_zero, member_in_order, zero_record, stranger_in_order, seat_in_order, seat_in_order_at, message_in_order, zero_place, place_in_order, place_in_order_at, in_order}
-use Rattle.order.specs.Between.{Shaped, InOrder}
+use Rattle.order.specs.Between.{InOrder}
 use Rattle.order.proofs.Facts.{InOrderFacts}
 
 -- ---- one rank, one record past the group
@@ -216,27 +216,18 @@ places-held anc s f =
 
 -- ---- the tests along their code
 
-three : (a b c : Bool) → a && b && c ≡ all (a ∷ b ∷ c ∷ [])
-three a b c = simp (all-step, all_nil, and_assoc, and_true)
-
-four : (a b c d : Bool) → a && b && c && d ≡ all (a ∷ b ∷ c ∷ d ∷ [])
-four a b c d = simp (all-step, all_nil, and_assoc, and_true)
-
-eight : (a b c d e f g h : Bool) → a && b && c && d && e && f && g && h ≡ all (a ∷ b ∷ c ∷ d ∷ e ∷ f ∷ g ∷ h ∷ [])
-eight a b c d e f g h = simp (all-step, all_nil, and_assoc, and_true)
-
-pub zero_triple_test : (t : Triple) → eqb t.word 0 && eqb t.known 0 && eqb t.acknowledged 0 ≡ is_zero t
+pub zero_triple_test : (t : Triple) → eqb t.word 0 && (eqb t.known 0 && eqb t.acknowledged 0) ≡ is_zero t
 unfolding is_zero
-zero_triple_test t = three (eqb t.word 0) (eqb t.known 0) (eqb t.acknowledged 0)
+zero_triple_test t = simp (all-step, all_nil, and_true)
 
-pub zero_record_test : (r : Rank) (t u : Bool) → t ≡ is_zero r.triple → u ≡ is_zero r.result
-    → eqb r.phase 0 && eqb r.marks 0 && eqb r.acknowledged 0 && eqb r.heard 0 && eqb r.awaited 0 && eqb r.owed 0 && t && u ≡ zero_record r
+pub zero_record_test : (r : Rank) → eqb r.phase 0 && (eqb r.marks 0 && (eqb r.acknowledged 0 && (eqb r.heard 0 && (eqb r.awaited 0 && (eqb r.owed 0
+    && ((eqb r.triple.word 0 && (eqb r.triple.known 0 && eqb r.triple.acknowledged 0)) && (eqb r.result.word 0 && (eqb r.result.known 0 && eqb r.result.acknowledged 0)))))))) ≡ zero_record r
 unfolding zero_record
-zero_record_test r t u e f = rw (e, f) (eight (eqb r.phase 0) (eqb r.marks 0) (eqb r.acknowledged 0) (eqb r.heard 0) (eqb r.awaited 0) (eqb r.owed 0) (is_zero r.triple) (is_zero r.result))
+zero_record_test r = rw (zero_triple_test r.triple, zero_triple_test r.result) (simp (all-step, all_nil, and_true))
 
-pub zero_place_test : (m : Message) (t : Bool) → t ≡ is_zero m.triple → eqb m.kind 0 && eqb m.from 0 && eqb m.to 0 && t ≡ zero_place m
+pub zero_place_test : (m : Message) → eqb m.kind 0 && (eqb m.from 0 && (eqb m.to 0 && (eqb m.triple.word 0 && (eqb m.triple.known 0 && eqb m.triple.acknowledged 0)))) ≡ zero_place m
 unfolding zero_place
-zero_place_test m t e = rw e (four (eqb m.kind 0) (eqb m.from 0) (eqb m.to 0) (is_zero m.triple))
+zero_place_test m = rw (zero_triple_test m.triple) (simp (all-step, all_nil, and_true))
 
 pub message_far : (n dead : ℕ) (m : Message) → n ≤ m.from → false ≡ message_in_order n dead m
 message_far n dead m l = sym (fails (message_in_order n dead m) (λ t. let h : m.from < n = (message_o n dead m t).from_in in omega arith))
@@ -268,14 +259,14 @@ unfolding place_in_order
 net-zero n dead c i m t l e = e ∙ rw (le-ltb i c l)
 
 -- a loop that tests each place: all before i pass
-pub every_stops : (f : ℕ → Bool) (m k : ℕ) (t : Bool) → k < m → t ≡ f k → not t ≡ true → false ≡ every f m
-every_stops f m k t l e h = sym (every-not f m k l (sym e ∙ not-true t h))
+pub every_stops : (f : ℕ → Bool) (m k : ℕ) (t : Bool) → k < m → t ≡ f k → t ≡ false → false ≡ every f m
+every_stops f m k t l e h = sym (every-not f m k l (sym e ∙ h))
 
 pub every-ends : (f : ℕ → Bool) (m k : ℕ) → m ≤ k → ((j : ℕ) → j < k → f j ≡ true) → true ≡ every f m
 every-ends f m k l h = sym (every_i f m (λ j b. h j (omega arith)))
 
-pub every_more : (f : ℕ → Bool) (k : ℕ) (t : Bool) → ((j : ℕ) → j < k → f j ≡ true) → t ≡ f k → not t ≡ false → (j : ℕ) → j < k + 1 → f j ≡ true
-every_more f k t h e g j l = ⊎_elim (λ (q : j ≡ k). ap f q ∙ sym e ∙ not-false t g) (λ (q : j ≡ k → ⊥). h j (omega arith)) (eq_or_ne j k)
+pub every_more : (f : ℕ → Bool) (k : ℕ) (t : Bool) → ((j : ℕ) → j < k → f j ≡ true) → t ≡ f k → t ≡ true → (j : ℕ) → j < k + 1 → f j ≡ true
+every_more f k t h e g j l = ⊎_elim (λ (q : j ≡ k). ap f q ∙ sym e ∙ g) (λ (q : j ≡ k → ⊥). h j (omega arith)) (eq_or_ne j k)
 
 five : (z a b c d e : Bool) → z ≡ true → a && b && c && d && e ≡ all (z ∷ a ∷ b ∷ c ∷ d ∷ e ∷ [])
 five z a b c d e h = rw h (simp (all-step, all_nil, and_assoc, and_true))
@@ -284,17 +275,12 @@ pub in_order_misshapen : (s : State) (k : ℕ) → k ≡ misshapen s.group.n s.g
 unfolding in_order
 in_order_misshapen s k e d = sym (fails _ (λ t. d (e ∙ eqb-true _ 0 (all_head _ _ t))))
 
-pub in_order_test : (s : State) (u w : ℕ) (q x y : Bool) (t : List (List ℕ)) → misshapen s.group.n s.group.form s.group.span ≡ 0 → u ≡ below s.group.n → w ≡ minus u s.group.dead → q ≡ is_within s.group.dead u → t ≡ s.tables
-    → x ≡ every (λ i. seat_in_order (own_tree s) s.group.n s.group.dead i (get_or s.group.ranks i zero_rank) (get_or t i [])) 64
+pub in_order_test : (s : State) (u w : ℕ) (q x y : Bool) → misshapen s.group.n s.group.form s.group.span ≡ 0 → u ≡ below s.group.n → w ≡ minus u s.group.dead → q ≡ is_within s.group.dead u
+    → x ≡ every (λ i. seat_in_order (own_tree s) s.group.n s.group.dead i (get_or s.group.ranks i zero_rank) (get_or s.tables i [])) 64
     → y ≡ every (λ i. place_in_order s.group.n s.group.dead s.group.count i (get_or s.group.net i zero_message)) 128
     → not (eqb w 0) && q && leb s.group.count 128 && x && y ≡ in_order (own_tree s) s
 unfolding in_order seat_in_order_at place_in_order_at
-in_order_test s u w q x y t a eu ew eq et ex ey =
-    rw (ex, ey, et, eq, ew, eu)
+in_order_test s u w q x y a eu ew eq ex ey =
+    rw (ex, ey, eq, ew, eu)
     (five (eqb (misshapen s.group.n s.group.form s.group.span) 0) (not (eqb (minus (below s.group.n) s.group.dead) 0)) (is_within s.group.dead (below s.group.n)) (leb s.group.count 128)
-    (every (λ i. seat_in_order (own_tree s) s.group.n s.group.dead i (get_or s.group.ranks i zero_rank) (get_or s.tables i [])) 64)
-    (every (λ i. place_in_order s.group.n s.group.dead s.group.count i (get_or s.group.net i zero_message)) 128)
-    (eq-eqb _ 0 a))
-
-pub shaped_from : (s : State) (t : List (List ℕ)) → length s.group.ranks ≡ 64 → length t ≡ 64 → t ≡ s.tables → length s.group.net ≡ 128 → Shaped s
-shaped_from s t a b e c = record { ranks-long = a; rows_long = sym (ap length e) ∙ b; net-long = c }
+    (every (seat_in_order_at (own_tree s) s) 64) (every (place_in_order_at s) 128) (eq-eqb _ 0 a))

@@ -6,13 +6,14 @@ use mathlib.Core.Logic.{◌⊎◌, inl, inr, ⊎_elim}
 use Prim.Native.Nat.{ℕ, ◌≤◌, ◌<◌}
 use lib.Dec.{eqb, leb}
 use lib.ListN.{get_or}
+use lib.Pointwise.{pointwise}
 use borrow.Author.Tests.{eqb-true, eqb-false, eq-eqb, ne_eqb, ltb-true, leb-true, le-leb, not-true, not-false}
 use Rattle.sets.specs.Sets.{none, has, minus, below, all}
 use Rattle.sets.proofs.Laws.Bools.{and_assoc, and_true, fails, and_i, and_l, and_r, not_i, clash, or_l, or_r, or_cases, passes_or_fails, all_head, all_tail, all_nil, all-step, all_cons, means, meant}
 use Rattle.sets.proofs.Laws.Members.{has-zero, has-below, minus-not, none_in, minus_l, minus_r, has-below-lt}
 use Rattle.tree.specs.Tree.{children, fresh}
 use Rattle.tree.specs.Calls.{same}
-use Rattle.tree.proofs.Laws.Rows.{same-eq, same_refl}
+use Rattle.tree.proofs.Laws.Rows.{pointwise-same, same-eq, same_refl}
 use Rattle.rank.specs.declared.Rank.{Rank}
 use Rattle.rank.specs.declared.Triple.{Triple}
 use Rattle.rank.specs.Words.{gathering, waiting, decided}
@@ -133,23 +134,28 @@ module _ (anc : ℕ → ℕ) (n me : ℕ) where
 
 -- ---- the test along its code
 
-pub unfresh : (anc : ℕ → ℕ) (n me : ℕ) (r : Rank) (row t : List ℕ) (k : Bool) → t ≡ fresh anc n r.marks → k ≡ same row t → not k ≡ true → false ≡ rank_in_order anc n me r row
+equal_rows : (s t : List ℕ) (k : Bool) → k ≡ not (pointwise eqb s t) → k ≡ false → same s t ≡ true
+equal_rows s t k e f = sym (pointwise-same s t) ∙ not-false (pointwise eqb s t) (sym e ∙ f)
+
+pub unfresh : (anc : ℕ → ℕ) (n me : ℕ) (r : Rank) (row t : List ℕ) (k : Bool) → t ≡ fresh anc n r.marks → k ≡ not (pointwise eqb row t) → k ≡ true → false ≡ rank_in_order anc n me r row
 unfresh anc n me r row t k e f g =
     sym (fails (rank_in_order anc n me r row) (λ h.
-    clash (same row t) (subst (λ (x : List ℕ). same row x ≡ true) ((rank_in_order_facts anc n me r row h).1 ∙ sym e) (same_refl row)) (sym f ∙ not-true k g)))
+    clash (same row t) (subst (λ (x : List ℕ). same row x ≡ true) ((rank_in_order_facts anc n me r row h).1 ∙ sym e) (same_refl row)) (sym (pointwise-same row t) ∙ not-true (pointwise eqb row t) (sym f ∙ g))))
+
+pub checked_row : (anc : ℕ → ℕ) (n marks : ℕ) (row t : List ℕ) (k : Bool) → t ≡ fresh anc n marks → k ≡ not (pointwise eqb row t) → k ≡ false → row ≡ fresh anc n marks
+checked_row anc n marks row t k e f g = same-eq row t (equal_rows row t k f g) ∙ e
 
 twelve : (a b c d e f g h i j k l s : Bool) → s ≡ true → a && b && c && d && e && (f && g) && h && i && j && k && l ≡ all (a ∷ b ∷ c ∷ d ∷ e ∷ f ∷ g ∷ s ∷ h ∷ i ∷ j ∷ k ∷ l ∷ [])
 twelve a b c d e f g h i j k l s z = rw z (simp (all-step, all_nil, and_assoc, and_true))
 
-pub tested : (anc : ℕ → ℕ) (n me : ℕ) (r : Rank) (row t : List ℕ) (k : Bool) (c w : ℕ) (p q v z : Bool) → n ≤ 64 → me < n → t ≡ fresh anc n r.marks → k ≡ same row t → not k ≡ false
+pub tested : (anc : ℕ → ℕ) (n me : ℕ) (r : Rank) (row t : List ℕ) (k : Bool) (c w : ℕ) (p q v z : Bool) → n ≤ 64 → me < n → t ≡ fresh anc n r.marks → k ≡ not (pointwise eqb row t) → k ≡ false
     → c ≡ children anc n r.marks me → w ≡ minus c r.heard → p ≡ proper n me r.marks && proper n me r.heard && proper n me r.awaited && proper n me r.owed
     → q ≡ is_within r.acknowledged r.marks → v ≡ triple_within n r.triple && triple_within n r.result → z ≡ is_zero r.result
     → p && q && v && eqb r.awaited w && (not (eqb r.phase gathering) || not (eqb r.awaited 0)) && (not (eqb r.phase waiting) || not (eqb (get_or row me 0) none)) && (eqb r.phase decided || z) && leb r.phase decided
     ≡ rank_in_order anc n me r row
 unfolding rank_in_order clauses
 tested anc n me r row t k c w p q v z a b e f g ec ew ep eq ev ez =
-    let yes' : same row t ≡ true = sym f ∙ not-false k g in
-    let fr : row ≡ fresh anc n r.marks = same-eq row t yes' ∙ e in
+    let fr : row ≡ fresh anc n r.marks = checked_row anc n r.marks row t k e f g in
     let sm : same row (fresh anc n r.marks) ≡ true = subst (λ (x : List ℕ). same row x ≡ true) fr (same_refl row) in
     let pa : get_or row me 0 ≡ parent_of anc me r = row-parent anc n me r row (record { size = a; own = b; table = fr }) in
     rw (ep, eq, ev, ez, awaited_is anc n me r.marks r.heard c w ec ew, pa) (twelve _ _ _ _ _ _ _ _ _ _ _ _ _ sm)

@@ -1,26 +1,34 @@
 -- The calls along their code. Assumes nothing.
 use mathlib.Core.Path.{◌≡◌, refl, sym, ap, ◌∙◌}
 use mathlib.Core.Bool.{Bool, true, false, cond, not, ◌||◌}
-use mathlib.Core.List.{List}
+use mathlib.Core.List.{List, ◌++◌}
+use mathlib.Core.Logic.{⊎_elim}
 use Prim.Native.Nat.{ℕ, ◌^◌, ◌≤◌, ◌<◌}
 use native.Mathlib.Omega.{arith}
 use lib.Dec.{eqb, ltb}
-use lib.ListN.{length, take}
-use lib.Seq.{length-take-le, take_all}
-use borrow.Author.Tests.{lt-ltb, le-ltb, ltb-true, ltb-false, eq-eqb, ne_eqb, eqb-true, not-true, not-false}
-use Rattle.sets.specs.Sets.{has, minus, below}
-use Rattle.sets.proofs.Laws.Bools.{clash, fails, or-none, or_neither, not_o}
+use lib.Pointwise.{pointwise}
+use Rattle.std.specs.Prelude.{None, Some, Result, Ok, Err}
+use Rattle.std.proofs.lemmas.Bool.Decides.{Decides-eqb}
+use Rattle.std.proofs.lemmas.Slice.Eq.{slice_eq-Decides}
+use lib.ListN.{length, take, drop}
+use lib.Seq.{length-take-le}
+use borrow.Author.Tests.{lt-ltb, le-ltb, ltb-true, ltb-false, eq-eqb, ne_eqb, eqb-true, eqb-false, not-false}
+use Rattle.sets.specs.Sets.{none, found, has, minus, below}
+use Rattle.sets.proofs.Laws.Bools.{clash, fails, passes_or_fails, or-none, or_neither, not_o}
+use Rattle.sets.proofs.Laws.Found.{nobody_found, is_found}
 use Rattle.sets.proofs.Laws.Members.{has-zero, has-below-lt, has_below_ge, minus_i, minus_l, minus_r, none_in, high_lt}
 use Rattle.tree.specs.Calls.{wrong_size}
 use Rattle.tree.proofs.Laws.Calls.{size-le, size_right}
+use Rattle.answers.specs.declared.Refusal.{Refusal}
+use Rattle.answers.specs.Answers.{number}
+use Rattle.answers.proofs.Laws.Numbers.{number-one_to_one, number-not_0}
 use Rattle.text.specs.Text.{Wrote, pasted}
-use Rattle.text.proofs.Laws.Writing.{wrote_kept, wrote_taken}
+use Rattle.text.proofs.Laws.Writing.{wrote_kept, wrote_taken, pasted_whole}
 use Rattle.proposing.specs.Proposing.{size_in, marks_in}
 use Rattle.pictures.specs.Pictures.{picture, picture_room}
-use Rattle.pictures.specs.Writing.{wrong_marks, Outcome, reply, refused_writing, accepted_writing, room_for, writing}
-use Rattle.pictures.specs.Reading.{IsView, Reads, a_picture, not_a_picture}
-use Rattle.pictures.specs.declared.Written.{Written}
-use Rattle.pictures.specs.declared.Viewed.{Viewed}
+use Rattle.pictures.specs.Writing.{wrong_marks, Written, written, Outcome, reply, refused_writing, accepted_writing, room_for, writing}
+use Rattle.pictures.specs.declared.View.{View}
+use Rattle.pictures.specs.Reading.{IsView, Viewed, viewed, Reads, a_picture, not_a_picture}
 use Rattle.pictures.proofs.Laws.Room.{length-picture}
 use Rattle.pictures.proofs.Laws.Proposals.{size_proposed, marks_proposed}
 
@@ -68,28 +76,29 @@ picture_taken n marks l t a b r w = wrote_taken w (omega (arith, length-picture 
 
 -- ---- write
 
-pub write-size : (n marks : ℕ) (text : List ℕ) (b : Bool) (r : Written) → b ≡ wrong_size n → b ≡ true → r ≡ record { answer = 1; length = 0 } → reply r text ≡ writing n marks text
+pub write-size : (n marks : ℕ) (text : List ℕ) (b : Bool) → b ≡ wrong_size n → b ≡ true → reply (record { answer = 1; length = 0 }) text ≡ writing n marks text
 unfolding writing refused_writing
-write-size n marks text b r e t f = rw (f, sym e ∙ t)
+write-size n marks text b e t = rw (sym e ∙ t)
 
-pub write-marks : (n marks : ℕ) (text : List ℕ) (b c : Bool) (r : Written) → b ≡ wrong_size n → b ≡ false → c ≡ wrong_marks n marks → c ≡ true → r ≡ record { answer = 2; length = 0 } → reply r text ≡ writing n marks text
+pub write-marks : (n marks : ℕ) (text : List ℕ) (b c : Bool) → b ≡ wrong_size n → b ≡ false → c ≡ wrong_marks n marks → c ≡ true → reply (record { answer = 2; length = 0 }) text ≡ writing n marks text
 unfolding writing refused_writing
-write-marks n marks text b c r e t f u g = rw (g, sym e ∙ t, sym f ∙ u)
+write-marks n marks text b c e t f u = rw (sym e ∙ t, sym f ∙ u)
 
 pub write-fit : (n marks : ℕ) (text : List ℕ) (b c : Bool) (r : Written) (u : List ℕ) → b ≡ wrong_size n → b ≡ false → c ≡ wrong_marks n marks → c ≡ false → reply r u ≡ room_for (picture n marks) text → reply r u ≡ writing n marks text
 unfolding writing
 write-fit n marks text b c r u e t f v g = rw (sym e ∙ t, sym f ∙ v) g
 
-pub fit-not : (n marks : ℕ) (text : List ℕ) (r : Written) (l t : List ℕ) (a : ℕ) → Wrote l 0 (picture n marks) t a → length text < a → r ≡ record { answer = 30; length = 0 } → reply r text ≡ room_for (picture n marks) text
+pub fit-not : (n marks : ℕ) (text l t : List ℕ) (a : ℕ) → Wrote l 0 (picture n marks) t a → length text < a → reply (record { answer = 30; length = 0 }) text ≡ room_for (picture n marks) text
 unfolding room_for refused_writing
-fit-not n marks text r l t a w s g = rw (g, lt-ltb (length text) (length (picture n marks)) (omega (arith, w.next_is)))
+fit-not n marks text l t a w s = rw (lt-ltb (length text) (length (picture n marks)) (omega (arith, w.next_is)))
 
-pub fit_all : (n marks : ℕ) (text l t : List ℕ) (a : ℕ) (u : List ℕ) (k : ℕ) → n ≤ 64 → picture_room ≤ length l → Wrote l 0 (picture n marks) t a → a ≤ length text → Wrote text 0 (take a t) u k
-    → ◌≡◌ {A = Outcome} (record { answer = 0; length = a; text = u }) (room_for (picture n marks) text)
+pub fit_all : (n marks : ℕ) (text l t : List ℕ) (a : ℕ) (new : List ℕ) → n ≤ 64 → picture_room ≤ length l → Wrote l 0 (picture n marks) t a → a ≤ length text → new ≡ take a t
+    → ◌≡◌ {A = Outcome} (record { answer = 0; length = a; text = new ++ drop a text }) (room_for (picture n marks) text)
 unfolding room_for accepted_writing
-fit_all n marks text l t a u k b r w s v =
+fit_all n marks text l t a new b r w s v =
     let z : a ≡ length (picture n marks) = omega (arith, w.next_is) in
-    rw (le-ltb (length text) (length (picture n marks)) (omega arith), v.text_is, picture_taken n marks l t a b r w, z)
+    let u : new ++ drop a text ≡ pasted text 0 (picture n marks) = rw (v, picture_taken n marks l t a b r w, w.next_is) (sym (pasted_whole text 0 (picture n marks) (omega arith))) in
+    rw (le-ltb (length text) (length (picture n marks)) (omega arith), u, z)
 
 -- What is written, by cases.
 pub data OutcomeIs (n marks : ℕ) (text : List ℕ) : Outcome → Type 0 where
@@ -153,38 +162,64 @@ reads_alike (not_a_picture h) (a_picture n marks v e) = absurd (h n marks v e)
 reads_alike (not_a_picture h) (not_a_picture i) = refl
 
 -- So a text is no picture where the proposal is no view, or its picture another text.
-unread : (text : List ℕ) (r : Viewed) → r ≡ record { answer = 31; n = 0; marks = 0 } → ((n marks : ℕ) → IsView n marks → text ≡ picture n marks → ⊥) → Reads text r
-unread text r e h = rw e (not_a_picture h)
+unread : (text : List ℕ) → ((n marks : ℕ) → IsView n marks → text ≡ picture n marks → ⊥) → Reads text (record { answer = 31; n = 0; marks = 0 })
+unread text h = not_a_picture h
 
-pub read-size : (text : List ℕ) (n : ℕ) (b : Bool) (r : Viewed) → n ≡ size_in text → b ≡ wrong_size n → b ≡ true → r ≡ record { answer = 31; n = 0; marks = 0 } → Reads text r
-read-size text n b r e f t u =
-    unread text r u (λ k m v p. clash (wrong_size n) (sym f ∙ t) (ap wrong_size (e ∙ (only-view text k m v p).0) ∙ v.sized))
+pub read-size : (text : List ℕ) (n : ℕ) (b : Bool) → n ≡ size_in text → b ≡ wrong_size n → b ≡ true → Reads text (record { answer = 31; n = 0; marks = 0 })
+read-size text n b e f t =
+    unread text (λ k m v p. clash (wrong_size n) (sym f ∙ t) (ap wrong_size (e ∙ (only-view text k m v p).0) ∙ v.sized))
 
-pub read-marks : (text : List ℕ) (n marks : ℕ) (c : Bool) (r : Viewed) → n ≡ size_in text → marks ≡ marks_in text n → c ≡ wrong_marks n marks → c ≡ true → r ≡ record { answer = 31; n = 0; marks = 0 } → Reads text r
-read-marks text n marks c r e g f t u =
-    unread text r u (λ k m v p.
+-- no size stands there, and none is a bad one
+none_is_bad : wrong_size none ≡ true
+none_is_bad = ⊎_elim (λ (t : wrong_size none ≡ true). t) (λ (f : wrong_size none ≡ false). absurd (let l = size-le none (wrong_size none) refl f in omega arith)) (passes_or_fails (wrong_size none))
+
+pub read_unsized : (text : List ℕ) → None ≡ found (size_in text) → Reads text (record { answer = 31; n = 0; marks = 0 })
+read_unsized text e = read-size text none true (sym (nobody_found (size_in text) e)) (sym none_is_bad) refl
+
+-- the size that was found
+pub sized : (text : List ℕ) (n : ℕ) → Some n ≡ found (size_in text) → n ≡ size_in text
+sized text n e = (is_found (size_in text) n e).0
+
+pub read-marks : (text : List ℕ) (n marks : ℕ) (c : Bool) → n ≡ size_in text → marks ≡ marks_in text n → c ≡ wrong_marks n marks → c ≡ true → Reads text (record { answer = 31; n = 0; marks = 0 })
+read-marks text n marks c e g f t =
+    unread text (λ k m v p.
     let o = only-view text k m v p in
     let s : marks ≡ m = g ∙ (ap (marks_in text) e ∙ o.1) in
     clash (wrong_marks n marks) (sym f ∙ t) (rw (e ∙ o.0, s) v.leaves))
 
-pub read-other : (text : List ℕ) (n marks : ℕ) (d : Bool) (r : Viewed) → n ≡ size_in text → marks ≡ marks_in text n → (text ≡ picture n marks → d ≡ true) → not d ≡ true → r ≡ record { answer = 31; n = 0; marks = 0 } → Reads text r
-read-other text n marks d r e g f t u =
-    unread text r u (λ k m v p.
+pub read-other : (text : List ℕ) (n marks : ℕ) (d : Bool) → n ≡ size_in text → marks ≡ marks_in text n → (text ≡ picture n marks → d ≡ true) → d ≡ false → Reads text (record { answer = 31; n = 0; marks = 0 })
+read-other text n marks d e g f t =
+    unread text (λ k m v p.
     let o = only-view text k m v p in
     let s : marks ≡ m = g ∙ (ap (marks_in text) e ∙ o.1) in
-    clash d (f (rw (e ∙ o.0, s) p)) (not-true d t))
+    clash d (f (rw (e ∙ o.0, s) p)) t)
 
-pub read_view : (text : List ℕ) (n marks : ℕ) (b c d : Bool) → b ≡ wrong_size n → b ≡ false → c ≡ wrong_marks n marks → c ≡ false → (d ≡ true → text ≡ picture n marks) → not d ≡ false → Reads text (record { answer = 0; n = n; marks = marks })
-read_view text n marks b c d e t f u p s = a_picture n marks (record { sized = sym e ∙ t; leaves = sym f ∙ u }) (p (not-false d s))
+pub read_view : (text : List ℕ) (n marks : ℕ) (b c d : Bool) → b ≡ wrong_size n → b ≡ false → c ≡ wrong_marks n marks → c ≡ false → (d ≡ true → text ≡ picture n marks) → d ≡ true → Reads text (record { answer = 0; n = n; marks = marks })
+read_view text n marks b c d e t f u p s = a_picture n marks (record { sized = sym e ∙ t; leaves = sym f ∙ u }) (p s)
+
+-- ---- answers
+
+not_0 : (r : Refusal) → number r ≡ 0 → ⊥
+not_0 r = eqb-false (number r) 0 (number-not_0 r)
+
+-- Two results that answer alike are the same.
+pub written_alike : (t u : Result ℕ Refusal) → written t ≡ written u → t ≡ u
+written_alike (Ok a) (Ok b) e = ap (λ (w : Written). Ok w.length) e
+written_alike (Ok a) (Err r) e = absurd (not_0 r (sym (ap (λ (w : Written). w.answer) e)))
+written_alike (Err r) (Ok a) e = absurd (not_0 r (ap (λ (w : Written). w.answer) e))
+written_alike (Err r) (Err s) e = ap Err (number-one_to_one r s (ap (λ (w : Written). w.answer) e))
+
+pub viewed_alike : (t u : Result View Refusal) → viewed t ≡ viewed u → t ≡ u
+viewed_alike (Ok a) (Ok b) e = ap (λ (w : Viewed). Ok (record { n = w.n; marks = w.marks })) e
+viewed_alike (Ok a) (Err r) e = absurd (not_0 r (sym (ap (λ (w : Viewed). w.answer) e)))
+viewed_alike (Err r) (Ok a) e = absurd (not_0 r (ap (λ (w : Viewed). w.answer) e))
+viewed_alike (Err r) (Err s) e = ap Err (number-one_to_one r s (ap (λ (w : Viewed). w.answer) e))
 
 -- ---- a text is the picture, along its code
 
-pub other_length : (text : List ℕ) (n marks : ℕ) (l t : List ℕ) (a : ℕ) → Wrote l 0 (picture n marks) t a → (length text ≡ a → ⊥) → (false ≡ true → text ≡ picture n marks) × (text ≡ picture n marks → false ≡ true)
-other_length text n marks l t a w d = (λ e. absurd (clash false e refl), λ e. absurd (d (let z : length text ≡ a = omega (arith, w.next_is, ap length e) in z)))
-
-pub same-picture : (text : List ℕ) (n marks : ℕ) (l t : List ℕ) (a : ℕ) (d : Bool) → n ≤ 64 → picture_room ≤ length l → Wrote l 0 (picture n marks) t a → length text ≡ a
-    → (d ≡ true → take a text ≡ take a t) × (take a text ≡ take a t → d ≡ true) → (d ≡ true → text ≡ picture n marks) × (text ≡ picture n marks → d ≡ true)
-same-picture text n marks l t a d b r w s h =
+pub same_picture : (text : List ℕ) (n marks : ℕ) (l t : List ℕ) (a : ℕ) (d : Bool) → n ≤ 64 → picture_room ≤ length l → Wrote l 0 (picture n marks) t a → d ≡ pointwise eqb text (take a t)
+    → (d ≡ true → text ≡ picture n marks) × (text ≡ picture n marks → d ≡ true)
+same_picture text n marks l t a d b r w e =
     let p = picture_taken n marks l t a b r w in
-    let q : take a text ≡ text = take_all a text (omega arith) in
-    (λ e. sym q ∙ (h.0 e ∙ p), λ e. h.1 (q ∙ (e ∙ sym p)))
+    let h = slice_eq-Decides Decides-eqb text (take a t) d e in
+    (λ z. h.0 z ∙ p, λ z. h.1 (z ∙ sym p))

@@ -1,29 +1,36 @@
 -- The room that is left after each part of a picture. Assumes nothing.
-use mathlib.Core.Bool.{Bool, true, false, cond}
-use mathlib.Core.List.{List, [], ◌∷◌, ◌++◌}
+use mathlib.Core.List.{[], ◌∷◌, ◌++◌}
 use Prim.Native.Nat.{ℕ, ◌+◌, ◌*◌, ◌≤◌}
 use native.Mathlib.Omega.{arith}
 use lib.ListN.{length, length-append}
-use Rattle.text.specs.Text.{Wrote, lines}
-use Rattle.text.proofs.Laws.Writing.{wrote_room}
-use Rattle.text.proofs.Laws.Lines.{Lining, length-lines, lining_start}
+use Rattle.text.specs.Text.{lines}
+use Rattle.text.specs.Pages.{Puts, HasRoom, Lines}
+use Rattle.text.specs.declared.Page.{Page}
+use Rattle.text.proofs.Laws.Writing.{room_after}
+use Rattle.text.proofs.Laws.Lines.{length-lines}
 use Rattle.dot.specs.Dot.{opening_line, node_line, edge_line}
-use Rattle.dot.proofs.Laws.Lines.{length_opening, length-line}
+use Rattle.dot.proofs.Laws.Lines.{length_opening, length_node, length-edge-line}
 use Rattle.pictures.specs.Pictures.{picture, picture_room}
 
-pub room_nodes : (n : ℕ) {text : List ℕ} {at : ℕ} {t : List ℕ} {a : ℕ} → at + picture_room ≤ length text → Wrote text at (opening_line n) t a → a + 3330 ≤ length t
-room_nodes n r w = wrote_room 22 3330 w (length_opening n) r
+abbrev pub node_lines : ℕ → Lines
+node_lines marks = record { line = node_line marks; most = 24; short = length_node marks }
 
-pub lines_start : (text : List ℕ) (at n marks : ℕ) (b : Bool) → at + 26 * n ≤ length text → Lining (λ p. cond b (edge_line marks p) (node_line marks p)) 26 n text at text at 0
-lines_start text at n marks b r = lining_start (λ p. cond b (edge_line marks p) (node_line marks p)) 26 n text at (λ p. length-line marks p b) (omega arith)
+abbrev pub edge_lines : ℕ → Lines
+edge_lines marks = record { line = edge_line marks; most = 26; short = length-edge-line marks }
 
--- so many lines leave all but 1,664 bytes
-pub room-lines : (left marks n : ℕ) (b : Bool) {text : List ℕ} {at : ℕ} {t : List ℕ} {a : ℕ} → n ≤ 64 → at + (1664 + left) ≤ length text → Wrote text at (lines (λ p. cond b (edge_line marks p) (node_line marks p)) n) t a → a + left ≤ length t
-room-lines left marks n b l r w = wrote_room 1664 left w (omega (arith, length-lines (λ p. cond b (edge_line marks p) (node_line marks p)) 26 n (λ p. length-line marks p b))) r
+pub room_nodes : {p q : Page} (n : ℕ) → HasRoom p picture_room → Puts p (opening_line n) q → HasRoom q 3330
+room_nodes n r h = room_after 22 3330 h (length_opening n) r
 
-pub length-picture : (n marks : ℕ) → n ≤ 64 → length (picture n marks) ≤ picture_room
+pub room_edges : {p q : Page} (n marks : ℕ) → n ≤ 64 → HasRoom p 3330 → Puts p (lines (node_line marks) n) q → HasRoom q 1666
+room_edges n marks l r h = room_after 1664 1666 h (omega (arith, length-lines (node_line marks) 24 n (length_node marks))) r
+
+pub room_end : {p q : Page} (n marks : ℕ) → n ≤ 64 → HasRoom p 1666 → Puts p (lines (edge_line marks) n) q → HasRoom q 2
+room_end n marks l r h = room_after 1664 2 h (omega (arith, length-lines (edge_line marks) 26 n (length-edge-line marks))) r
+
+-- whatever the size
+pub length_any : (n marks : ℕ) → length (picture n marks) ≤ 24 + 50 * n
 unfolding picture
-length-picture n marks l =
+length_any n marks =
     let nodes = lines (node_line marks) n in
     let links = lines (edge_line marks) n in
     omega (
@@ -32,6 +39,9 @@ length-picture n marks l =
       length-append nodes (links ++ (125 ∷ 10 ∷ [])),
       length-append links (125 ∷ 10 ∷ []),
       length_opening n,
-      length-lines (node_line marks) 26 n (λ p. length-line marks p false),
-      length-lines (edge_line marks) 26 n (λ p. length-line marks p true),
+      length-lines (node_line marks) 24 n (length_node marks),
+      length-lines (edge_line marks) 26 n (length-edge-line marks),
     )
+
+pub length-picture : (n marks : ℕ) → n ≤ 64 → length (picture n marks) ≤ picture_room
+length-picture n marks l = omega (arith, length_any n marks)

@@ -1,174 +1,188 @@
--- The loop along its code: the state's parts are held by themselves, the events still to come stand as they did, and what is still to come
--- has the same end. Assumes nothing.
-use mathlib.Core.Path.{◌≡◌, refl, sym, ap, subst, ◌∙◌}
+-- The loop along its code: the messages in flight are held beside the state, the events still to come stand as they did, and what is still to
+-- come has the same end. Assumes nothing.
+use mathlib.Core.Path.{◌≡◌, refl, sym, ap, ap₂, subst, ◌∙◌}
 use mathlib.Core.Bool.{cond}
 use mathlib.Core.List.{List, []}
 use mathlib.Core.Logic.{inr}
 use Prim.Native.Nat.{ℕ, suc, ◌+◌, ◌*◌, ◌-◌, ◌≤◌, ◌<◌}
 use native.Mathlib.Omega.{arith}
-use lib.ListN.{length, get_or, set, take}
-use lib.Seq.{get_or-set_same, set-get_or}
+use lib.ListN.{length, get_or, set}
+use lib.Seq.{get_or-set_same, set-get_or, length-take-le}
 use Rattle.sets.specs.Sets.{add}
-use Rattle.tree.specs.Tree.{fresh, nobody}
+use Rattle.answers.specs.declared.Refusal.{Refusal}
+use Rattle.answers.specs.Answers.{number}
+use Rattle.tree.specs.Tree.{fresh}
+use Rattle.tree.specs.Forms.{tree_of}
 use Rattle.rank.specs.declared.Rank.{Rank}
 use Rattle.rank.specs.declared.Message.{Message}
+use Rattle.rank.specs.Between.{FreshRow}
 use Rattle.rank.specs.Sends.{size}
-use Rattle.net.specs.Net.{zero_message, padded, placed}
+use Rattle.net.specs.Net.{zero_message, padded}
+use Rattle.net.proofs.Laws.Net.{padded_at, padded-take}
 use Rattle.events.specs.declared.Event.{Event}
 use Rattle.state.specs.declared.State.{State}
-use Rattle.state.specs.States.{zero_rank, joined}
+use Rattle.state.specs.States.{zero_rank, joined, own_tree, flying}
 use Rattle.order.specs.Between.{InOrder}
 use Rattle.order.proofs.Laws.Ordering.{in_order_facts}
 use Rattle.refusals.specs.Refusing.{refusal}
 use Rattle.plans.specs.declared.Plan.{Plan}
-use Rattle.plans.specs.Plans.{subject, planned}
+use Rattle.plans.specs.Plans.{subject, refusing, planned, as_planned}
+use Rattle.plans.proofs.Laws.Planning.{plan_refused}
 use Rattle.plans.specs.Between.{FreshSubject}
-use Rattle.plans.proofs.Laws.Planning.{plan_answers}
-use Rattle.group.specs.declared.Stepped.{Stepped}
-use Rattle.group.specs.Events.{posted, event}
-use Rattle.group.proofs.Laws.Stepping.{subject-below, step_ready, step-held, step_count, step-refused, step-accepted}
+use Rattle.std.specs.Prelude.{Err}
+use Rattle.group.specs.Events.{Stepped, posted, refused, event}
+use Rattle.group.proofs.Laws.Stepping.{subject-below, step_seat, step_ready, step-held, step-refuses, step-accepted, plan_is}
 use Rattle.group.proofs.Laws.Events.{event_steps_on}
 use Rattle.group.proofs.Laws.Moving.{event_keeps_order}
+use Rattle.group.proofs.Forms.{an_event_keeps_the_form}
 use Rattle.playing.specs.Playing.{Run, written, event_in, told, played}
+use Rattle.playing.specs.Between.{listed}
 use Rattle.playing.proofs.Laws.Slices.{written-long, written_keeps, reads_alike}
 
--- A state from its parts.
-abbrev pub held : ℕ → ℕ → ℕ → ℕ → ℕ → List Rank → List Message → List (List ℕ) → State
-held n form span dead c ranks net tables = joined (record { n = n; form = form; span = span; count = c; dead = dead; ranks = ranks; net = net }) tables
+-- ---- one event, on a state s whose messages in flight are l
 
--- A state with its list and its tables taken out and put back.
-abbrev pub parts : State → List Message → List (List ℕ) → State
-parts s m t = held s.group.n s.group.form s.group.span s.group.dead s.group.count s.group.ranks m t
+pub advance_small : (anc : ℕ → ℕ) (s : State) (l : List Message) → InOrder anc (listed s l) → s.group.n ≤ 64
+advance_small anc s l o = (in_order_facts anc (listed s l) o).shape.small
 
-parts_are : (s : State) (m : List Message) (t : List (List ℕ)) → m ≡ s.group.net → t ≡ s.tables → parts s m t ≡ s
-parts_are s m t e f = rw (e, f)
+-- The message at the event's place is m, and the event is about rank me.
+module _ (anc : ℕ → ℕ) (s : State) (l : List Message) (ev : Event) (m : Message) (me : ℕ) (o : InOrder anc (listed s l)) (at : m ≡ get_or l ev.a zero_message) (eg : me ≡ subject s.group.n ev m) where
+  em : m ≡ get_or (padded l) ev.a zero_message
+  em = at ∙ sym (padded_at l ev.a)
 
--- Before the event at place k: the slice out₀ held the events.
+  pub advance_subject : me < 64
+  advance_subject = subject-below anc (listed s l) ev m me o em eg
+
+  pub advance_seat : FreshRow anc s.group.n me (get_or s.group.ranks me zero_rank) (get_or s.tables me [])
+  advance_seat = step_seat anc (listed s l) ev m me o em eg
+
+  pub advance_ready : FreshSubject anc s.group.n m me (get_or s.group.ranks me zero_rank)
+  advance_ready = step_ready anc (listed s l) ev m me o em eg
+
+  -- a refusal of the plan
+  pub advance_unplanned : (e : Refusal) → refusing (number e) (get_or s.group.ranks me zero_rank) (get_or s.tables me []) ≡ planned anc s.group.n s.group.dead (length l) ev m me (get_or s.group.ranks me zero_rank) (get_or s.tables me [])
+      → refused (number e) (listed s l) ≡ event anc (listed s l) ev
+  advance_unplanned e q = step-refuses anc (listed s l) ev e _ _ (plan_is anc (listed s l) ev m me (Err e) em eg q) ∙ sym (event_steps_on anc (listed s l) ev o)
+
+  -- a refusal that comes before a plan
+  pub advance_refused : (e : Refusal) → number e ≡ refusal s.group.n s.group.dead (length l) ev (get_or s.group.ranks me zero_rank) m → refused (number e) (listed s l) ≡ event anc (listed s l) ev
+  advance_refused e h = advance_unplanned e (plan_refused anc s.group.n s.group.dead (length l) ev m me _ _ e h)
+
+  pub advance_accepted : (p : Plan) (sent d : ℕ) (next : List Message) → as_planned p ≡ planned anc s.group.n s.group.dead (length l) ev m me (get_or s.group.ranks me zero_rank) (get_or s.tables me [])
+      → sent ≡ size p.acted.first + size p.acted.second → next ≡ posted l ev.a me (as_planned p)
+      → d ≡ cond p.dies (add s.group.dead me) s.group.dead
+      → ◌≡◌ {A = Stepped}
+      (record {
+        answer = 0;
+        sent = sent;
+        moved = p.acted.moved;
+        state = joined (record { n = s.group.n; form = s.group.form; span = s.group.span; count = length next; dead = d; ranks = set s.group.ranks me p.acted.rank; net = padded next }) (set s.tables me p.acted.row);
+      })
+      (event anc (listed s l) ev)
+  advance_accepted p sent d next q es en ed = rw es (step-accepted anc (listed s l) ev m me p next d (size p.acted.first) (size p.acted.second) em eg q (en ∙ ap (λ (t : List Message). posted t ev.a me (as_planned p)) (sym (padded-take l))) ed refl refl ∙ sym (event_steps_on anc (listed s l) ev o))
+
+  -- A row changes only with the marks: it is the fresh one before and after.
+  pub advance_marks : (p : Plan) (sent d : ℕ) (next : List Message) → as_planned p ≡ planned anc s.group.n s.group.dead (length l) ev m me (get_or s.group.ranks me zero_rank) (get_or s.tables me [])
+      → sent ≡ size p.acted.first + size p.acted.second → next ≡ posted l ev.a me (as_planned p)
+      → d ≡ cond p.dies (add s.group.dead me) s.group.dead → p.acted.rank.marks ≡ (get_or s.group.ranks me zero_rank).marks
+      → ◌≡◌ {A = Stepped}
+      (record {
+        answer = 0;
+        sent = sent;
+        moved = p.acted.moved;
+        state = joined (record { n = s.group.n; form = s.group.form; span = s.group.span; count = length next; dead = d; ranks = set s.group.ranks me p.acted.rank; net = padded next }) s.tables;
+      })
+      (event anc (listed s l) ev)
+  advance_marks p sent d next q es en ed e =
+      let u : State = joined (record { n = s.group.n; form = s.group.form; span = s.group.span; count = length next; dead = d; ranks = set s.group.ranks me p.acted.rank; net = padded next }) (set s.tables me p.acted.row) in
+      let done = advance_accepted p sent d next q es en ed in
+      let h : InOrder anc u = subst (λ (x : Stepped). InOrder anc x.state) (sym done) (event_keeps_order anc (listed s l) ev o) in
+      let f = in_order_facts anc (listed s l) o in
+      let f' = in_order_facts anc u h in
+      let own = advance_seat in
+      let here : get_or (set s.tables me p.acted.row) me [] ≡ p.acted.row = get_or-set_same s.tables me p.acted.row [] (omega (arith, f.shaped.rows_long, own.own, own.size)) in
+      let mine : get_or (set s.group.ranks me p.acted.rank) me zero_rank ≡ p.acted.rank = get_or-set_same s.group.ranks me p.acted.rank zero_rank (omega (arith, f.shaped.ranks-long, own.own, own.size)) in
+      let now : p.acted.row ≡ get_or s.tables me [] = sym here ∙ (f'.member me own.own).table ∙ ap (λ (x : Rank). fresh anc s.group.n x.marks) mine ∙ ap (fresh anc s.group.n) e ∙ sym own.table in
+      let same : set s.tables me p.acted.row ≡ s.tables = ap (set s.tables me) now ∙ set-get_or s.tables me [] in
+      sym
+      (ap {B = Stepped}
+      (λ (t : List (List ℕ)). record {
+        answer = 0;
+        sent = sent;
+        moved = p.acted.moved;
+        state = joined (record { n = s.group.n; form = s.group.form; span = s.group.span; count = length next; dead = d; ranks = set s.group.ranks me p.acted.rank; net = padded next }) t;
+      })
+      same)
+      ∙ done
+
+-- ---- events one after the other
+
+-- Before the event at place k: the slice out₀ held the events, and the state s has the form and box size of the first.
 pub record Going (anc : ℕ → ℕ) (total : ℕ) (s₀ : State) (out₀ : List ℕ) (s : State) (out : List ℕ) (k : ℕ) : Type 0 where
   pub room : 3 * total ≤ length out
   pub within : k ≤ total
   pub kept : length out ≡ length out₀
-  pub in_order : InOrder anc s
+  pub formed : own_tree s ≡ anc
+  pub in_order : InOrder (own_tree s) s
   pub ahead : (i : ℕ) → 3 * k ≤ i → get_or out i 0 ≡ get_or out₀ i 0
   pub same_end : played anc (event_in out₀) (total - k) k s out ≡ played anc (event_in out₀) total 0 s₀ out₀
 
-going_start : (anc : ℕ → ℕ) (total : ℕ) (s : State) (out : List ℕ) → 3 * total ≤ length out → InOrder anc s → Going anc total s out s out 0
-going_start anc total s out r o = record { room = r; within = omega arith; kept = refl; in_order = o; ahead = λ i l. refl; same_end = ap (λ (t : ℕ). played anc (event_in out) t 0 s out) (let z : total - 0 ≡ total = omega arith in z) }
-
--- The code starts from the parts of s and ends with them put together.
-pub going_begin : (anc : ℕ → ℕ) (total : ℕ) (s : State) (m : List Message) (t : List (List ℕ)) (out : List ℕ) → m ≡ s.group.net → t ≡ s.tables → 3 * total ≤ length out → InOrder anc s
-    → Going anc total (parts s m t) out (parts s m t) out 0
-going_begin anc total s m t out e f r o = subst (λ (x : State). Going anc total x out x out 0) (sym (parts_are s m t e f)) (going_start anc total s out r o)
-
--- The event that is read is the one that stood there at first.
-going_reads : (anc : ℕ → ℕ) (total : ℕ) (s₀ : State) (out₀ : List ℕ) (s : State) (out : List ℕ) (k : ℕ) → Going anc total s₀ out₀ s out k → event_in out k ≡ event_in out₀ k
-going_reads anc total s₀ out₀ s out k g = reads_alike out out₀ k (λ i l m. g.ahead i l)
-
--- One event more.
-going_on : (anc : ℕ → ℕ) (total : ℕ) (s₀ : State) (out₀ : List ℕ) (s : State) (out : List ℕ) (k : ℕ) (u : Stepped) → Going anc total s₀ out₀ s out k → k < total → u ≡ event anc s (event_in out k)
-    → Going anc total s₀ out₀ u.state (written out k u.answer u.sent u.moved.count) (k + 1)
-unfolding played told
-going_on anc total s₀ out₀ s out k u g l e =
+-- The code starts with the list of s taken out.
+pub going_begin : (total : ℕ) (s : State) (l : List Message) (out : List ℕ) → l ≡ flying s → 3 * total ≤ length out → InOrder (own_tree s) s → Going (own_tree s) total s out (listed s l) out 0
+going_begin total s l out e r o =
+    let z : total - 0 ≡ total = omega arith in
+    let h = in_order_facts (own_tree s) s o in
+    let c : length (flying s) ≡ s.group.count = length-take-le s.group.count s.group.net (omega (arith, h.count-le, h.shaped.net-long)) in
+    let q : listed s l ≡ s = rw e (ap₂ (λ (x : ℕ) (y : List Message). joined (record { n = s.group.n; form = s.group.form; span = s.group.span; count = x; dead = s.group.dead; ranks = s.group.ranks; net = y }) s.tables) c (sym (step-held (own_tree s) s o))) in
     record {
+      room = r;
+      within = omega arith;
+      kept = refl;
+      formed = refl;
+      in_order = subst (InOrder (own_tree s)) (sym q) o;
+      ahead = λ i l. refl;
+      same_end = ap₂ (λ (t : ℕ) (x : State). played (own_tree s) (event_in out) t 0 x out) z q;
+    }
+
+pub going_room : (anc : ℕ → ℕ) (total : ℕ) (s₀ : State) (out₀ : List ℕ) (s : State) (out : List ℕ) (k : ℕ) → Going anc total s₀ out₀ s out k → k < total → 3 * k + 3 ≤ length out
+going_room anc total s₀ out₀ s out k g l = omega (arith, g.room)
+
+-- One event more: the event that is read is the one that stood there at first.
+pub going_on : (anc : ℕ → ℕ) (total : ℕ) (s₀ : State) (out₀ : List ℕ) (s : State) (out : List ℕ) (k : ℕ) (ev : Event) (u : Stepped) (v : List ℕ) → Going anc total s₀ out₀ s out k → k < total → ev ≡ event_in out k → u ≡ event (own_tree s) s ev
+    → v ≡ written out k u.answer u.sent u.moved.count → Going anc total s₀ out₀ u.state v (k + 1)
+unfolding played told
+going_on anc total s₀ out₀ s out k ev u v g l ee e w =
+    let o : own_tree u.state ≡ own_tree s = ap (λ (x : Stepped). own_tree x.state) e ∙ formed in
+    rw w
+    (record {
       room = omega (arith, g.room, written-long out k u.answer u.sent u.moved.count);
       within = omega arith;
       kept = written-long out k u.answer u.sent u.moved.count ∙ g.kept;
-      in_order = subst (λ (x : Stepped). InOrder anc x.state) (sym e) (event_keeps_order anc s (event_in out k) g.in_order);
+      formed = o ∙ g.formed;
+      in_order = subst (λ (t : ℕ → ℕ). InOrder t u.state) (sym o) (subst (λ (x : Stepped). InOrder (own_tree s) x.state) (sym e) (event_keeps_order (own_tree s) s ev g.in_order));
       ahead = λ i m. written_keeps out k u.answer u.sent u.moved.count i (inr (omega arith)) ∙ g.ahead i (omega arith);
       same_end = next (total - (k + 1)) (omega arith) ∙ g.same_end;
-    }
+    })
   where
+    formed : own_tree (event (own_tree s) s ev).state ≡ own_tree s
+    formed = let k = an_event_keeps_the_form (own_tree s) s ev in ap₂ tree_of k.0 k.1
+
     f : u ≡ event anc s (event_in out₀ k)
-    f = e ∙ ap (event anc s) (going_reads anc total s₀ out₀ s out k g)
+    f = e ∙ ap₂ (λ (t : ℕ → ℕ) (x : Event). event t s x) g.formed (ee ∙ reads_alike out out₀ k (λ i m n. g.ahead i m))
 
     next : (left : ℕ) → total - k ≡ suc left → played anc (event_in out₀) (total - (k + 1)) (k + 1) u.state (written out k u.answer u.sent u.moved.count) ≡ played anc (event_in out₀) (total - k) k s out
     next left h =
         let p : total - (k + 1) ≡ left = omega arith in
         rw (p, h, f)
 
--- ---- what the code asks for on the way, from what it has found: the event, the message m at its place, the rank me
-
-pub going_room : (anc : ℕ → ℕ) (total : ℕ) (s₀ : State) (out₀ : List ℕ) (s : State) (out : List ℕ) (k : ℕ) → Going anc total s₀ out₀ s out k → k < total → 3 * k + 3 ≤ length out
-going_room anc total s₀ out₀ s out k g l = omega (arith, g.room)
-
-pub going_subject : (anc : ℕ → ℕ) (total : ℕ) (s₀ : State) (out₀ : List ℕ) (n form span dead c : ℕ) (ranks : List Rank) (net : List Message) (tables : List (List ℕ)) (out : List ℕ) (k : ℕ) (ev : Event) (m : Message) (me : ℕ)
-    → Going anc total s₀ out₀ (held n form span dead c ranks net tables) out k → m ≡ get_or net ev.a zero_message → me ≡ subject n ev m → me < 64
-going_subject anc total s₀ out₀ n form span dead c ranks net tables out k ev m me g = subject-below anc (held n form span dead c ranks net tables) ev m me g.in_order
-
-pub going_small : (anc : ℕ → ℕ) (total : ℕ) (s₀ : State) (out₀ : List ℕ) (n form span dead c : ℕ) (ranks : List Rank) (net : List Message) (tables : List (List ℕ)) (out : List ℕ) (k : ℕ) → Going anc total s₀ out₀ (held n form span dead c ranks net tables) out k → n ≤ 64
-going_small anc total s₀ out₀ n form span dead c ranks net tables out k g = (in_order_facts anc (held n form span dead c ranks net tables) g.in_order).shape.small
-
-pub going_ready : (anc : ℕ → ℕ) (total : ℕ) (s₀ : State) (out₀ : List ℕ) (n form span dead c : ℕ) (ranks : List Rank) (net : List Message) (tables : List (List ℕ)) (out : List ℕ) (k : ℕ) (ev : Event) (m : Message) (me : ℕ)
-    → Going anc total s₀ out₀ (held n form span dead c ranks net tables) out k → m ≡ get_or net ev.a zero_message → me ≡ subject n ev m → FreshSubject anc n m me (get_or ranks me zero_rank) (get_or tables me [])
-going_ready anc total s₀ out₀ n form span dead c ranks net tables out k ev m me g e f = step_ready anc (held n form span dead c ranks net tables) ev m me tables g.in_order e f refl
-
-pub going_held : (anc : ℕ → ℕ) (total : ℕ) (s₀ : State) (out₀ : List ℕ) (n form span dead c : ℕ) (ranks : List Rank) (net : List Message) (tables : List (List ℕ)) (out : List ℕ) (k : ℕ)
-    → Going anc total s₀ out₀ (held n form span dead c ranks net tables) out k → net ≡ padded (take c net)
-going_held anc total s₀ out₀ n form span dead c ranks net tables out k g = step-held anc (held n form span dead c ranks net tables) g.in_order
-
-pub going_count : (anc : ℕ → ℕ) (total : ℕ) (s₀ : State) (out₀ : List ℕ) (n form span dead c : ℕ) (ranks : List Rank) (net : List Message) (tables : List (List ℕ)) (out : List ℕ) (k : ℕ)
-    → Going anc total s₀ out₀ (held n form span dead c ranks net tables) out k → c ≤ 128
-going_count anc total s₀ out₀ n form span dead c ranks net tables out k g = step_count anc (held n form span dead c ranks net tables) g.in_order
-
--- ---- the next turn
-
-pub going_refused : (anc : ℕ → ℕ) (total : ℕ) (s₀ : State) (out₀ : List ℕ) (n form span dead c : ℕ) (ranks : List Rank) (net : List Message) (tables : List (List ℕ)) (out : List ℕ) (k : ℕ) (ev : Event) (m : Message) (me : ℕ) (p : Plan) (v : List ℕ)
-    → Going anc total s₀ out₀ (held n form span dead c ranks net tables) out k → k < total → ev ≡ event_in out k → m ≡ get_or net ev.a zero_message → me ≡ subject n ev m
-    → p ≡ planned anc n dead c ev m me (get_or ranks me zero_rank) (get_or tables me []) → v ≡ written out k p.answer 0 0 → (p.answer ≡ 0 → ⊥)
-    → Going anc total s₀ out₀ (held n form span dead c ranks net tables) v (k + 1)
-going_refused anc total s₀ out₀ n form span dead c ranks net tables out k ev m me p v g l ee em eg ep w z =
-    let s = held n form span dead c ranks net tables in
-    rw w
-    (going_on anc total s₀ out₀ s out k (record { answer = p.answer; sent = 0; moved = nobody; state = s }) g l
-    (step-refused anc s ev m me tables p em eg refl ep z ∙ sym (event_steps_on anc s ev g.in_order) ∙ ap (event anc s) ee))
-
--- the same where a refusal comes before a plan
-pub going_unplanned : (anc : ℕ → ℕ) (total : ℕ) (s₀ : State) (out₀ : List ℕ) (n form span dead c : ℕ) (ranks : List Rank) (net : List Message) (tables : List (List ℕ)) (out : List ℕ) (k : ℕ) (ev : Event) (m : Message) (me number : ℕ) (v : List ℕ)
-    → Going anc total s₀ out₀ (held n form span dead c ranks net tables) out k → k < total → ev ≡ event_in out k → m ≡ get_or net ev.a zero_message → me ≡ subject n ev m
-    → number ≡ refusal n dead c ev (get_or ranks me zero_rank) m → v ≡ written out k number 0 0 → (number ≡ 0 → ⊥)
-    → Going anc total s₀ out₀ (held n form span dead c ranks net tables) v (k + 1)
-going_unplanned anc total s₀ out₀ n form span dead c ranks net tables out k ev m me number v g l ee em eg er w z =
-    let e : (planned anc n dead c ev m me (get_or ranks me zero_rank) (get_or tables me [])).answer ≡ number = plan_answers anc n dead c ev m me (get_or ranks me zero_rank) (get_or tables me []) number er z in
-    going_refused anc total s₀ out₀ n form span dead c ranks net tables out k ev m me (planned anc n dead c ev m me (get_or ranks me zero_rank) (get_or tables me [])) v g l ee em eg refl
-    (w ∙ ap (λ (x : ℕ). written out k x 0 0) (sym e)) (λ h. z (sym e ∙ h))
-
-pub going_accepted : (anc : ℕ → ℕ) (total : ℕ) (s₀ : State) (out₀ : List ℕ) (n form span dead c : ℕ) (ranks : List Rank) (net : List Message) (tables : List (List ℕ)) (out : List ℕ) (k : ℕ) (ev : Event) (m : Message) (me : ℕ) (p : Plan) (v : List ℕ) (sent c' : ℕ) (next : List Message) (d : ℕ)
-    → Going anc total s₀ out₀ (held n form span dead c ranks net tables) out k → k < total → ev ≡ event_in out k → m ≡ get_or net ev.a zero_message → me ≡ subject n ev m
-    → p ≡ planned anc n dead c ev m me (get_or ranks me zero_rank) (get_or tables me []) → p.answer ≡ 0 → sent ≡ size p.acted.first + size p.acted.second
-    → c' ≡ (placed (posted (take c net) ev.a me p)).count → next ≡ (placed (posted (take c net) ev.a me p)).net → v ≡ written out k 0 sent p.acted.moved.count → d ≡ cond p.dies (add dead me) dead
-    → Going anc total s₀ out₀ (held n form span d c' (set ranks me p.acted.rank) next (set tables me p.acted.row)) v (k + 1)
-going_accepted anc total s₀ out₀ n form span dead c ranks net tables out k ev m me p v sent c' next d g l ee em eg ep z es ec en w ed =
-    let s = held n form span dead c ranks net tables in
-    let u : State = held n form span d c' (set ranks me p.acted.rank) next (set tables me p.acted.row) in
-    let x = size p.acted.first in
-    let y = size p.acted.second in
-    rw (w, es)
-    (going_on anc total s₀ out₀ s out k (record { answer = 0; sent = x + y; moved = p.acted.moved; state = u }) g l
-    (step-accepted anc s ev m me tables p c' next d x y u em eg refl ep z ec en ed refl refl refl ∙ sym (event_steps_on anc s ev g.in_order) ∙ ap (event anc s) ee))
-
--- A row changes only with the marks: it is the fresh one before and after.
-pub going_row : (anc : ℕ → ℕ) (total : ℕ) (s₀ : State) (out₀ : List ℕ) (n form span dead c : ℕ) (ranks : List Rank) (net : List Message) (tables : List (List ℕ)) (out : List ℕ) (k : ℕ) (ev : Event) (m : Message) (me : ℕ) (r : Rank) (row : List ℕ) (d c' : ℕ) (next : List Message) (v : List ℕ) (k' : ℕ)
-    → Going anc total s₀ out₀ (held n form span dead c ranks net tables) out k → m ≡ get_or net ev.a zero_message → me ≡ subject n ev m → r.marks ≡ (get_or ranks me zero_rank).marks
-    → Going anc total s₀ out₀ (held n form span d c' (set ranks me r) next (set tables me row)) v k' → Going anc total s₀ out₀ (held n form span d c' (set ranks me r) next tables) v k'
-going_row anc total s₀ out₀ n form span dead c ranks net tables out k ev m me r row d c' next v k' g em eg e h =
-    let f = in_order_facts anc (held n form span dead c ranks net tables) g.in_order in
-    let f' = in_order_facts anc (held n form span d c' (set ranks me r) next (set tables me row)) h.in_order in
-    let o = (step_ready anc (held n form span dead c ranks net tables) ev m me tables g.in_order em eg refl).fresh-row in
-    let here : get_or (set tables me row) me [] ≡ row = get_or-set_same tables me row [] (omega (arith, f.shaped.rows_long, o.own, o.size)) in
-    let mine : get_or (set ranks me r) me zero_rank ≡ r = get_or-set_same ranks me r zero_rank (omega (arith, f.shaped.ranks-long, o.own, o.size)) in
-    let now : row ≡ get_or tables me [] = sym here ∙ (f'.member me o.own).table ∙ ap (λ (x : Rank). fresh anc n x.marks) mine ∙ ap (fresh anc n) e ∙ sym o.table in
-    subst (λ (t : List (List ℕ)). Going anc total s₀ out₀ (held n form span d c' (set ranks me r) next t) v k') (ap (set tables me) now ∙ set-get_or tables me []) h
+pub going_refused : (anc : ℕ → ℕ) (total : ℕ) (s₀ : State) (out₀ : List ℕ) (s : State) (out : List ℕ) (k : ℕ) (ev : Event) (e : Refusal) (t : State) (v : List ℕ) → Going anc total s₀ out₀ s out k → k < total → ev ≡ event_in out k
+    → refused (number e) t ≡ event (own_tree s) s ev → v ≡ written out k (number e) 0 0 → Going anc total s₀ out₀ t v (k + 1)
+going_refused anc total s₀ out₀ s out k ev e t v g l ee q w = going_on anc total s₀ out₀ s out k ev (refused (number e) t) v g l ee q w
 
 -- All events played.
-pub going_end : (anc : ℕ → ℕ) (total : ℕ) (s : State) (m : List Message) (t : List (List ℕ)) (out₀ : List ℕ) (u r : State) (out : List ℕ) (k : ℕ) → m ≡ s.group.net → t ≡ s.tables → Going anc total (parts s m t) out₀ u out k → total ≤ k → r ≡ u
-    → (r ≡ (played anc (event_in out₀) total 0 s out₀).state) × (out ≡ (played anc (event_in out₀) total 0 s out₀).answers)
+pub going_end : (anc : ℕ → ℕ) (total : ℕ) (s : State) (out₀ : List ℕ) (u : State) (out : List ℕ) (k : ℕ) → Going anc total s out₀ u out k → total ≤ k
+    → (u ≡ (played anc (event_in out₀) total 0 s out₀).state) × (out ≡ (played anc (event_in out₀) total 0 s out₀).answers)
 unfolding played
-going_end anc total s m t out₀ u r out k h i g l f =
+going_end anc total s out₀ u out k g l =
     let z : total - k ≡ 0 = omega arith in
-    let e : ◌≡◌ {A = Run} (record { answer = 0; state = u; answers = out }) (played anc (event_in out₀) total 0 (parts s m t) out₀) = subst (λ (x : ℕ). played anc (event_in out₀) x k u out ≡ played anc (event_in out₀) total 0 (parts s m t) out₀) z g.same_end in
-    let q : ◌≡◌ {A = Run} (record { answer = 0; state = u; answers = out }) (played anc (event_in out₀) total 0 s out₀) = e ∙ ap (λ (x : State). played anc (event_in out₀) total 0 x out₀) (parts_are s m t h i) in
-    (f ∙ ap (λ (x : Run). x.state) q, ap (λ (x : Run). x.answers) q)
-
--- The list of messages put back.
-pub put_back : (n form span dead c : ℕ) (ranks : List Rank) (m net : List Message) (tables : List (List ℕ)) (r : State) → r ≡ held n form span dead c ranks m tables → m ≡ net → r ≡ held n form span dead c ranks net tables
-put_back n form span dead c ranks m net tables r e f = e ∙ rw f
+    let e : ◌≡◌ {A = Run} (record { answer = 0; state = u; answers = out }) (played anc (event_in out₀) total 0 s out₀) = subst (λ (x : ℕ). played anc (event_in out₀) x k u out ≡ played anc (event_in out₀) total 0 s out₀) z g.same_end in
+    (ap (λ (x : Run). x.state) e, ap (λ (x : Run). x.answers) e)

@@ -13,8 +13,7 @@ use Rattle.events.specs.declared.Event.{Event}
 use Rattle.events.specs.Events.{event_of}
 use Rattle.state.specs.declared.State.{State}
 use Rattle.order.specs.Between.{InOrder}
-use Rattle.group.specs.declared.Stepped.{Stepped}
-use Rattle.group.specs.Events.{refused, event}
+use Rattle.group.specs.Events.{Stepped, refused, event}
 use Rattle.group.specs.Reaching.{SameForm}
 use Rattle.group.proofs.Laws.Events.{refused_says}
 use Rattle.group.proofs.Forms.{an_event_keeps_the_form}

@@ -1,42 +1,58 @@
 -- The proposal along its code. Assumes nothing.
 use mathlib.Core.Path.{◌≡◌, refl, sym, ap, ◌∙◌}
-use mathlib.Core.Bool.{Bool, true, false, cond, not}
+use mathlib.Core.Bool.{Bool, true, false, cond}
 use mathlib.Core.List.{List}
 use Prim.Native.Nat.{ℕ, zero, suc, ◌+◌, ◌*◌, ◌-◌, ◌≤◌, ◌<◌}
 use native.Mathlib.Omega.{arith}
 use lib.Dec.{eqb, ltb, leb}
-use lib.ListN.{length, get_or, get_or-eq_default}
-use borrow.Author.Tests.{lt-ltb, le-ltb, eq-eqb, ne_eqb, leb-true, not-true, not-false}
-use Rattle.sets.specs.Sets.{none, add}
-use Rattle.sets.proofs.Laws.Bools.{and_l, and_r}
+use lib.ListN.{get_or}
+use borrow.Author.Tests.{lt-ltb, le-ltb, eq-eqb, ne_eqb, eqb-true, leb-true}
+use Rattle.std.specs.Prelude.{Option, None, Some}
+use Rattle.std.specs.Option.{option_eq}
+use Rattle.std.specs.Char.{is_ascii_digit}
+use Rattle.sets.specs.Sets.{none, found, add}
+use Rattle.sets.proofs.Laws.Found.{found-some}
+use Rattle.sets.proofs.Laws.Bools.{clash, and_r}
 use Rattle.proposing.specs.Proposing.{is_digit, number_from, number_in, width, after_node, marks_from, marks_in}
 
 -- ---- digits
 
-pub digit_from : (b : ℕ) (d : Bool) → d ≡ is_digit b → not d ≡ false → 48 ≤ b
+-- the library's digits are the definition's
+pub digit_is : (b : ℕ) (d : Bool) → d ≡ is_ascii_digit b → d ≡ is_digit b
 unfolding is_digit
-digit_from b d e n = leb-true 48 b (and_l (leb 48 b) (leb b 57) (sym e ∙ not-false d n))
+digit_is b d e = e
 
-pub digit_to : (b : ℕ) (d : Bool) → d ≡ is_digit b → not d ≡ false → b ≤ 57
+digit_to : (b : ℕ) (d : Bool) → d ≡ is_digit b → d ≡ true → b ≤ 57
 unfolding is_digit
-digit_to b d e n = leb-true b 57 (and_r (leb 48 b) (leb b 57) (sym e ∙ not-false d n))
+digit_to b d e t = leb-true b 57 (and_r (leb 48 b) (leb b 57) (sym e ∙ t))
 
-pub number-none : (x y : ℕ) (d : Bool) → d ≡ is_digit x → not d ≡ true → none ≡ number_from x y
+pub number-none : (x y : ℕ) (d : Bool) → d ≡ is_digit x → d ≡ false → None ≡ found (number_from x y)
 unfolding number_from
-number-none x y d e n = rw (sym e ∙ not-true d n)
+number-none x y d e n = rw (sym e ∙ n)
 
-pub number-one : (x y : ℕ) (d f : Bool) → d ≡ is_digit x → not d ≡ false → f ≡ is_digit y → not f ≡ true → x - 48 ≡ number_from x y
+pub number-one : (x y : ℕ) (d f : Bool) → d ≡ is_digit x → d ≡ true → f ≡ is_digit y → f ≡ false → Some (x - 48) ≡ found (number_from x y)
 unfolding number_from
-number-one x y d f e n g m = rw (sym e ∙ not-false d n, sym g ∙ not-true f m)
+number-one x y d f e t g n = found-some (number_from x y) (x - 48) (rw (sym e ∙ t, sym g ∙ n)) (λ z. omega (arith, digit_to x d e t))
 
-pub number-two : (x y : ℕ) (d f : Bool) → d ≡ is_digit x → not d ≡ false → f ≡ is_digit y → not f ≡ false → 10 * (x - 48) + (y - 48) ≡ number_from x y
+pub number-two : (x y : ℕ) (d f : Bool) → d ≡ is_digit x → d ≡ true → f ≡ is_digit y → f ≡ true → Some (10 * (x - 48) + (y - 48)) ≡ found (number_from x y)
 unfolding number_from
-number-two x y d f e n g m = rw (sym e ∙ not-false d n, sym g ∙ not-false f m)
+number-two x y d f e t g u = found-some (number_from x y) (10 * (x - 48) + (y - 48)) (rw (sym e ∙ t, sym g ∙ u)) (λ z. omega (arith, digit_to x d e t, digit_to y f g u))
+
+-- a number that is compared with a rank
+same : (k p : ℕ) (b : Bool) → option_eq eqb (cond b None (Some k)) (Some p) ≡ true → k ≡ p
+same k p true h = absurd (clash false h refl)
+same k p false h = eqb-true k p h
+
+pub read_same : (k p : ℕ) (d : Bool) (r : Option ℕ) → r ≡ found k → d ≡ option_eq eqb r (Some p) → d ≡ true → k ≡ p
+read_same k p d r e f t = same k p (eqb k none) (ap (λ (o : Option ℕ). option_eq eqb o (Some p)) (sym e) ∙ (sym f ∙ t))
+
+pub read_other : (k p : ℕ) (d : Bool) (r : Option ℕ) → p < none → r ≡ found k → d ≡ option_eq eqb r (Some p) → d ≡ false → k ≡ p → ⊥
+read_other k p d r l e f t z =
+    let n : eqb k none ≡ false = ne_eqb k none (λ y. omega arith) in
+    let g : option_eq eqb (found k) (Some p) ≡ true = rw n (eq-eqb k p z) in
+    clash d (f ∙ (ap (λ (o : Option ℕ). option_eq eqb o (Some p)) e ∙ g)) t
 
 -- ---- widths and places
-
-pub byte_past : (text : List ℕ) (at : ℕ) → length text ≤ at → 0 ≡ get_or text at 0
-byte_past text at l = sym (get_or-eq_default text 0 l)
 
 pub width_one : (p : ℕ) → p < 10 → 1 ≡ width p
 unfolding width
@@ -92,22 +108,22 @@ pub from_skip : (text : List ℕ) (left p at marks : ℕ) → (number_in text at
 unfolding marks_from
 from_skip text left p at marks d = rw (ne_eqb (number_in text at) p d)
 
-pub proposing_take : (text : List ℕ) (n marks at p q a m b : ℕ) → Proposing text n marks at p → p < n → q ≡ number_in text at → q ≡ p → a ≡ after_node text at p → m ≡ marks → b ≡ a → Proposing text n m b (p + 1)
-proposing_take text n marks at p q a m b h l e f g i j = record {
+pub proposing_take : (text : List ℕ) (n marks at p a m b : ℕ) → Proposing text n marks at p → p < n → number_in text at ≡ p → a ≡ after_node text at p → m ≡ marks → b ≡ a → Proposing text n m b (p + 1)
+proposing_take text n marks at p a m b h l f g i j = record {
   within = omega arith;
   near = omega (arith, h.near, after-le text at p);
   rest =
       let s : n - p ≡ suc (n - (p + 1)) = omega arith in
-      h.rest ∙ (ap (λ (k : ℕ). marks_from text k p at marks) s ∙ (from_take text (n - (p + 1)) p at marks (sym e ∙ f) ∙ rw (i, j, g)));
+      h.rest ∙ (ap (λ (k : ℕ). marks_from text k p at marks) s ∙ (from_take text (n - (p + 1)) p at marks f ∙ rw (i, j, g)));
 }
 
-pub proposing_skip : (text : List ℕ) (n marks at p q m m' b : ℕ) → Proposing text n marks at p → p < n → q ≡ number_in text at → (q ≡ p → ⊥) → m ≡ add marks p → m' ≡ m → b ≡ at → Proposing text n m' b (p + 1)
-proposing_skip text n marks at p q m m' b h l e f g i j = record {
+pub proposing_skip : (text : List ℕ) (n marks at p m m' b : ℕ) → Proposing text n marks at p → p < n → (number_in text at ≡ p → ⊥) → m ≡ add marks p → m' ≡ m → b ≡ at → Proposing text n m' b (p + 1)
+proposing_skip text n marks at p m m' b h l f g i j = record {
   within = omega arith;
   near = omega (arith, h.near);
   rest =
       let s : n - p ≡ suc (n - (p + 1)) = omega arith in
-      h.rest ∙ (ap (λ (k : ℕ). marks_from text k p at marks) s ∙ (from_skip text (n - (p + 1)) p at marks (λ z. f (e ∙ z)) ∙ rw (i, j, g)));
+      h.rest ∙ (ap (λ (k : ℕ). marks_from text k p at marks) s ∙ (from_skip text (n - (p + 1)) p at marks f ∙ rw (i, j, g)));
 }
 
 pub from_none : (text : List ℕ) (p at marks : ℕ) → marks_from text zero p at marks ≡ marks

@@ -1,8 +1,7 @@
 -- `size_in` meets its contract: one call. Assumes nothing.
-use borrow.Author.Rules.{rules}
 use Rattle.proposing.specs.Proposing.{size_in}
 use Rattle.proposing.proofs.size_in.Goals as goal
 
 pub returns : goal.returns
 unfolding size_in
-returns c = search rules
+returns c = c.number_in.ensures

@@ -5,9 +5,9 @@ use mathlib.Core.Bool.{true, false, ◌&&◌, ◌||◌}
 use mathlib.Core.Logic.{⊎_elim}
 use Prim.Native.Nat.{ℕ, ◌≤◌, ◌<◌}
 use native.Mathlib.Omega.{arith}
-use lib.Bits.{bit_and, and_comm, and_self}
+use lib.Bits.{and_comm, and_self}
 use borrow.Author.Tests.{eq-eqb, ne_eqb}
-use Rattle.sets.specs.Sets.{has, union, meet, minus, below, smallest}
+use Rattle.sets.specs.Sets.{has, minus, below, smallest}
 use Rattle.sets.proofs.Laws.Bools.{clash, lt-or-le, or_cases, and_l}
 use Rattle.sets.proofs.Laws.Members.{has-zero, has-union, has_meet, has-below-lt, has_below_ge, minus_i, minus_l, minus_r, none_in, bits_assoc, union_comm, union_self, union_assoc, meet_comm, meet_self, meet_assoc}
 use Rattle.sets.proofs.Laws.Searches.{LeastOf, least, smallest-cases}
@@ -16,21 +16,6 @@ use Rattle.rank.specs.declared.Rank.{Rank}
 use Rattle.rank.specs.Triples.{fresh_triple, zero_triple, combine, closing, code}
 use Rattle.rank.specs.Records.{proposal}
 use Rattle.rank.proofs.Facts.{TripleWithin, ToSettle}
-
--- ---- along the code
-
-pub combine_is : (a b : Triple) (u m : ℕ) → u ≡ union a.known b.known → m ≡ meet a.acknowledged b.acknowledged
-    → ◌≡◌ {A = Triple} (record { word = bit_and a.word b.word; known = u; acknowledged = m }) (combine a b)
-unfolding combine
-combine_is a b u m e f = rw (e, f)
-
-pub code_common : (t : Triple) (w : ℕ) → w ≡ minus t.known t.acknowledged → w ≡ 0 → 0 ≡ code t
-unfolding code
-code_common t w e z = rw (eq-eqb (minus t.known t.acknowledged) 0 (sym e ∙ z))
-
-pub code-missing : (t : Triple) (w : ℕ) → w ≡ minus t.known t.acknowledged → (w ≡ 0 → ⊥) → 1 ≡ code t
-unfolding code
-code-missing t w e z = rw (ne_eqb (minus t.known t.acknowledged) 0 (λ h. z (e ∙ h)))
 
 -- ---- which comes first, and what comes twice
 
@@ -116,7 +101,14 @@ abbrev pub Missing : Triple → ℕ → Type 0
 Missing t d = (has t.known d ≡ true) × (has t.acknowledged d ≡ false)
 
 pub missing-code : (t : Triple) (d : ℕ) → Missing t d → code t ≡ 1
-missing-code t d m = sym (code-missing t (minus t.known t.acknowledged) refl (λ z. clash (has (minus t.known t.acknowledged) d) (minus_i t.known t.acknowledged d m.0 m.1) (ap (λ (w : ℕ). has w d) z ∙ has-zero d)))
+unfolding code
+missing-code t d m =
+    let w : ℕ = minus t.known t.acknowledged in
+    rw (ne_eqb w 0 (λ z. clash (has w d) (minus_i t.known t.acknowledged d m.0 m.1) (ap (λ (x : ℕ). has x d) z ∙ has-zero d)))
+
+common-code : (t : Triple) → minus t.known t.acknowledged ≡ 0 → code t ≡ 0
+unfolding code
+common-code t z = rw (eq-eqb (minus t.known t.acknowledged) 0 z)
 
 pub code_misses : (n : ℕ) (t : Triple) → TripleWithin n t → code t ≡ 1 → (d : ℕ) × Missing t d
 code_misses n t h e = go (smallest (has w) n 0) (smallest-cases (has w) n 0)
@@ -127,5 +119,6 @@ code_misses n t h e = go (smallest (has w) n 0) (smallest-cases (has w) n 0)
     go : (d : ℕ) → LeastOf (has w) n 0 d → (k : ℕ) × Missing t k
     go d (least s) = (d, (minus_l t.known t.acknowledged d s.passes, minus_r t.known t.acknowledged d s.passes))
     go d (LeastOf.empty f) =
-        let z : 0 ≡ code t = code_common t (minus t.known t.acknowledged) refl (none_in (minus t.known t.acknowledged) (λ k y. clash (has w k) y (f k (h.known_in k (minus_l t.known t.acknowledged k y))))) in
+        let z : w ≡ 0 = none_in w (λ k y. clash (has w k) y (f k (h.known_in k (minus_l t.known t.acknowledged k y)))) in
+        let u : code t ≡ 0 = common-code t z in
         absurd (omega arith)

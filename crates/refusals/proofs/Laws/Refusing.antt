@@ -1,13 +1,17 @@
 -- Refusals along their code: the tests on the way pick the definition's case. Assumes nothing.
-use mathlib.Core.Path.{◌≡◌, refl, sym, ◌∙◌}
+use mathlib.Core.Path.{◌≡◌, refl, sym, ap, ◌∙◌}
 use mathlib.Core.Bool.{Bool, true, false, cond, not, ◌&&◌, ◌||◌}
 use mathlib.Core.Logic.{◌⊎◌, inl, inr}
 use Prim.Native.Nat.{ℕ, ◌≤◌, ◌<◌, ◌^◌}
 use native.Mathlib.Omega.{arith}
 use lib.Dec.{eqb, leb}
 use borrow.Author.Tests.{eqb-true, eq-eqb, ne_eqb, leb-false, le-leb, lt-leb}
+use Rattle.std.specs.Prelude.{Result, Ok, Err}
+use Rattle.answers.specs.declared.Refusal.{Refusal}
+use Rattle.answers.specs.Answers.{number, answer_of}
+use Rattle.answers.proofs.Laws.Numbers.{number-one_to_one, number-not_0}
 use Rattle.sets.specs.Sets.{has, only, minus, below}
-use Rattle.sets.proofs.Laws.Bools.{passes_or_fails, passes, and_i, clash, fails, or_l, or_r, or_cases, or-none, or_neither, not_i}
+use Rattle.sets.proofs.Laws.Bools.{passes_or_fails, passes, and_i, clash, fails, or_l, or-none, or_neither, not_i}
 use Rattle.sets.proofs.Laws.Members.{has-high}
 use Rattle.rank.specs.declared.Rank.{Rank}
 use Rattle.rank.specs.declared.Message.{Message}
@@ -37,22 +41,17 @@ pub told_below : (t : Bool) (n : ℕ) (ev : Event) → t ≡ wrong_rank n ev →
 unfolding wrong_rank
 told_below t n ev e f k = leb-false n ev.b (rw (eq-eqb ev.kind 4 k) at (or_neither (names_rank ev.kind && leb n ev.a) (eqb ev.kind 4 && leb n ev.b) (sym e ∙ f)).1)
 
-crash_kind : (kind : ℕ) → (kind ≡ 1) ⊎ ((kind ≡ 3) ⊎ ((kind ≡ 4) ⊎ (kind ≡ 6))) → eqb kind 1 || eqb kind 6 ≡ false → (kind ≡ 4 → ⊥) → kind ≡ 3
-crash_kind kind (inl e) x y = absurd (clash (eqb kind 1) (eq-eqb kind 1 e) (or_neither (eqb kind 1) (eqb kind 6) x).0)
+crash_kind : (kind : ℕ) → (kind ≡ 1) ⊎ ((kind ≡ 3) ⊎ ((kind ≡ 4) ⊎ (kind ≡ 6))) → ((kind ≡ 1) ⊎ (kind ≡ 6) → ⊥) → (kind ≡ 4 → ⊥) → kind ≡ 3
+crash_kind kind (inl e) x y = absurd (x (inl e))
 crash_kind kind (inr (inl e)) x y = e
 crash_kind kind (inr (inr (inl e))) x y = absurd (y e)
-crash_kind kind (inr (inr (inr e))) x y = absurd (clash (eqb kind 6) (eq-eqb kind 6 e) (or_neither (eqb kind 1) (eqb kind 6) x).1)
+crash_kind kind (inr (inr (inr e))) x y = absurd (x (inr e))
 
 not_loss : (kind : ℕ) → (kind ≡ 1) ⊎ ((kind ≡ 3) ⊎ ((kind ≡ 4) ⊎ (kind ≡ 6))) → eqb kind 5 ≡ false
 not_loss kind (inl e) = rw e
 not_loss kind (inr (inl e)) = rw e
 not_loss kind (inr (inr (inl e))) = rw e
 not_loss kind (inr (inr (inr e))) = rw e
-
--- who enters or acknowledges is not told of anyone and does not crash
-neither_other : (kind : ℕ) → (eqb kind 1 ≡ true) ⊎ (eqb kind 6 ≡ true) → (eqb kind 4 ≡ false) × (eqb kind 3 ≡ false)
-neither_other kind (inl e) = (rw (eqb-true kind 1 e), rw (eqb-true kind 1 e))
-neither_other kind (inr e) = (rw (eqb-true kind 6 e), rw (eqb-true kind 6 e))
 
 module _ (n dead count : ℕ) (ev : Event) (r : Rank) (m : Message) where
   pub refusal_3 : (t : Bool) → t ≡ wrong_kind ev → t ≡ true → 3 ≡ refusal n dead count ev r m
@@ -97,11 +96,10 @@ module _ (n dead count : ℕ) (ev : Event) (r : Rank) (m : Message) where
   rank_6 t u k p e f g h = rw (rank-refusal k p, sym e ∙ f, sym g ∙ h)
 
   pub rank-outside : (t u : Bool) (z : ℕ) → wrong_kind ev ≡ false → names_rank ev.kind ≡ true → t ≡ wrong_rank n ev → t ≡ false → u ≡ has dead ev.a → u ≡ false
-      → eqb ev.kind 1 || eqb ev.kind 6 ≡ true → z ≡ cond (not (eqb r.phase outside)) 7 0 → z ≡ refusal n dead count ev r m
+      → (ev.kind ≡ 1) ⊎ (ev.kind ≡ 6) → z ≡ cond (not (eqb r.phase outside)) 7 0 → z ≡ refusal n dead count ev r m
   unfolding not_outside is_living is_last
-  rank-outside t u z k p e f g h j y =
-      let others = neither_other ev.kind (or_cases (eqb ev.kind 1) (eqb ev.kind 6) j) in
-      rw (rank-refusal k p, sym e ∙ f, sym g ∙ h, j, others.0, others.1) y
+  rank-outside t u z k p e f g h (inl j) y = rw (rank-refusal k p, sym e ∙ f, sym g ∙ h, j) y
+  rank-outside t u z k p e f g h (inr j) y = rw (rank-refusal k p, sym e ∙ f, sym g ∙ h, j) y
 
   pub rank-notice : (t u : Bool) (z : ℕ) → wrong_kind ev ≡ false → names_rank ev.kind ≡ true → t ≡ wrong_rank n ev → t ≡ false → u ≡ has dead ev.a → u ≡ false
       → ev.kind ≡ 4 → z ≡ cond (not (has dead ev.b)) 8 0 → z ≡ refusal n dead count ev r m
@@ -109,7 +107,7 @@ module _ (n dead count : ℕ) (ev : Event) (r : Rank) (m : Message) where
   rank-notice t u z k p e f g h j y = rw (rank-refusal k p, sym e ∙ f, sym g ∙ h, j) y
 
   pub rank_crash : (t u : Bool) (z : ℕ) → wrong_kind ev ≡ false → names_rank ev.kind ≡ true → t ≡ wrong_rank n ev → t ≡ false → u ≡ has dead ev.a → u ≡ false
-      → eqb ev.kind 1 || eqb ev.kind 6 ≡ false → (ev.kind ≡ 4 → ⊥) → z ≡ cond (eqb (minus (below n) dead) (only ev.a)) 9 0 → z ≡ refusal n dead count ev r m
+      → ((ev.kind ≡ 1) ⊎ (ev.kind ≡ 6) → ⊥) → (ev.kind ≡ 4 → ⊥) → z ≡ cond (eqb (minus (below n) dead) (only ev.a)) 9 0 → z ≡ refusal n dead count ev r m
   unfolding not_outside is_living is_last
   rank_crash t u z k p e f g h i j y = rw (rank-refusal k p, sym e ∙ f, sym g ∙ h, crash_kind ev.kind (rank_kinds ev.kind p) i j) y
 
@@ -177,9 +175,6 @@ stands_outside n dead c ev r m x k =
 pub clean_outside : (n dead c : ℕ) (ev : Event) (r : Rank) (m : Message) → Clean n dead c ev r m → ev.kind ≡ 1 → r.phase ≡ outside
 clean_outside n dead c ev r m x k = stands_outside n dead c ev r m x (or_l (eqb ev.kind 1) (eqb ev.kind 6) (eq-eqb ev.kind 1 k))
 
-pub clean_acknowledge : (n dead c : ℕ) (ev : Event) (r : Rank) (m : Message) → Clean n dead c ev r m → ev.kind ≡ 6 → r.phase ≡ outside
-clean_acknowledge n dead c ev r m x k = stands_outside n dead c ev r m x (or_r (eqb ev.kind 1) (eqb ev.kind 6) (eq-eqb ev.kind 6 k))
-
 -- who is told of is dead
 pub clean_told : (n dead c : ℕ) (ev : Event) (r : Rank) (m : Message) → Clean n dead c ev r m → ev.kind ≡ 4 → has dead ev.b ≡ true
 unfolding is_living
@@ -202,3 +197,11 @@ clean_end n dead c ev r m x k = go (passes_or_fails (has dead m.from)) (passes_o
         absurd (clash (eqb ev.kind 5 && not (has dead m.from) && not (has dead m.to))
         (and_i (eqb ev.kind 5 && not (has dead m.from)) (not (has dead m.to)) (and_i (eqb ev.kind 5) (not (has dead m.from)) (eq-eqb ev.kind 5 k) (not_i (has dead m.from) u)) (not_i (has dead m.to) v))
         x.end_dead)
+
+-- ---- the answer's number
+
+pub same_answer : (x y : Result (Unit {0}) Refusal) → answer_of x ≡ answer_of y → x ≡ y
+same_answer (Ok x) (Ok y) e = refl
+same_answer (Ok x) (Err b) e = absurd (clash (eqb (number b) 0) (eq-eqb (number b) 0 (sym e)) (number-not_0 b))
+same_answer (Err a) (Ok y) e = absurd (clash (eqb (number a) 0) (eq-eqb (number a) 0 e) (number-not_0 a))
+same_answer (Err a) (Err b) e = ap Err (number-one_to_one a b e)

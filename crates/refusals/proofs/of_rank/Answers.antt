@@ -16,23 +16,23 @@ member-requires c = let l : c.args.ev.a < c.args.n = search rank_below in omega 
 pub returns-then-member : goal.returns-then-member
 returns-then-member c = search rank_6
 
-pub returns-then-ev : goal.returns-then-ev
-returns-then-ev c = search rank-outside
-
-pub overflow_cast-ev-then-ev-eq-NOTICES : goal.overflow_cast-ev-then-ev-eq-NOTICES
-overflow_cast-ev-then-ev-eq-NOTICES c = let l : c.args.ev.b < c.args.n = search told_below in omega arith
+pub overflow_cast-ev-in-4 : goal.overflow_cast-ev-in-4
+overflow_cast-ev-in-4 c = let l : c.args.ev.b < c.args.n = search told_below in omega arith
 
 pub of_notice-requires : goal.of_notice-requires
 of_notice-requires c = let l : c.args.ev.b < c.args.n = search told_below in omega arith
 
-pub returns-then-ev-eq-NOTICES : goal.returns-then-ev-eq-NOTICES
-returns-then-ev-eq-NOTICES c = search rank-notice
-
-pub overflow_cast-ev-2 : goal.overflow_cast-ev-2
-overflow_cast-ev-2 c = let l : c.args.ev.a < c.args.n = search rank_below in omega arith
+pub overflow_cast-ev-in_default : goal.overflow_cast-ev-in_default
+overflow_cast-ev-in_default c = let l : c.args.ev.a < c.args.n = search rank_below in omega arith
 
 pub of_crash-requires-clause-p_bound : goal.of_crash-requires-clause-p_bound
 of_crash-requires-clause-p_bound c = let l : c.args.ev.a < c.args.n = search rank_below in omega arith
 
-pub returns : goal.returns
-returns c = search rank_crash
+pub returns-in-1 : goal.returns-in-1
+returns-in-1 c = search rank-outside
+
+pub returns-in-4 : goal.returns-in-4
+returns-in-4 c = search rank-notice
+
+pub returns-in_default : goal.returns-in_default
+returns-in_default c = search rank_crash

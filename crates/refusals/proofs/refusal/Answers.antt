@@ -6,15 +6,6 @@ use Rattle.refusals.proofs.refusal.Goals as goal
 pub returns-then-wrong_kind : goal.returns-then-wrong_kind
 returns-then-wrong_kind c = search refusal_3
 
-pub of_place-requires : goal.of_place-requires
-of_place-requires c = (sym c.wrong_kind.ensures ∙ c.if-wrong_kind.false, sym c.names_place.ensures ∙ c.if-names_place.true)
-
-pub returns-then-names_place : goal.returns-then-names_place
-returns-then-names_place c = c.of_place.ensures _ _
-
 pub of_rank-requires-clause-ev_value : goal.of_rank-requires-clause-ev_value
 of_rank-requires-clause-ev_value c = let right = sym c.wrong_kind.ensures ∙ c.if-wrong_kind.false in
     (right, names_one _ right (sym c.names_place.ensures ∙ c.if-names_place.false))
-
-pub returns : goal.returns
-returns c = c.of_rank.ensures _ _

@@ -1,105 +1,104 @@
 -- The whole run along its code: a good header gives a group in order and whole events. Assumes nothing.
-use mathlib.Core.Path.{◌≡◌, refl, sym, ap, ap₂, subst, ◌∙◌}
-use mathlib.Core.Bool.{true, false}
-use mathlib.Core.List.{List, []}
+use mathlib.Core.Path.{◌≡◌, sym, ap, ap₂, subst, ◌∙◌}
+use mathlib.Core.List.{List}
 use Prim.Native.Nat.{ℕ, ◌*◌, ◌≤◌, ◌<◌}
 use native.Mathlib.Omega.{arith}
 use lib.ListN.{length, take}
-use lib.Seq.{length-take-le}
 use borrow.Author.Tests.{lt-ltb, le-ltb}
-use Rattle.sets.proofs.Laws.Bools.{clash}
+use Rattle.std.specs.Prelude.{Result, Ok, Err}
+use Rattle.answers.specs.declared.Refusal.{Refusal}
+use Rattle.answers.specs.declared.Refusal.TheVariants.{FewPlaces}
+use Rattle.answers.specs.Answers.{number}
 use Rattle.tree.specs.Tree.{flat}
 use Rattle.tree.specs.Forms.{tree_of, flat_form}
-use Rattle.tree.specs.Calls.{wrong_size}
 use Rattle.tree.proofs.Laws.Forms.{flat_form_lem}
 use Rattle.calls.proofs.Laws.Shapes.{flat_shapely, shape_right}
 use Rattle.state.specs.declared.State.{State}
-use Rattle.state.specs.declared.Started.{Started}
+use Rattle.state.specs.declared.Refused.{Refused}
 use Rattle.state.specs.States.{own_tree}
-use Rattle.state.specs.Starting.{fresh_state, started}
-use Rattle.state.proofs.Laws.Starting.{started-small, fresh_form, fresh_span}
+use Rattle.state.specs.Starting.{Started, told as start_told, fresh_state, empty_state, started}
+use Rattle.state.proofs.Laws.Starting.{started-small, start_of_none, not_accepted, fresh_form, fresh_span}
 use Rattle.order.specs.Between.{InOrder}
 use Rattle.order.proofs.Laws.Fresh.{fresh_in_order}
 use Rattle.files.specs.declared.Header.{Header}
-use Rattle.files.specs.declared.Header.TheVariants.{Good, NoHeader, WrongMark, WrongVersion, WrongSize, TooLong, Broken}
-use Rattle.files.specs.Files.{longest, event_at, header, number_of}
-use Rattle.files.proofs.Laws.Opening.{goodness, good_opened, bad_number, long_bad, long-start}
+use Rattle.files.specs.Files.{longest, event_at, header}
+use Rattle.files.proofs.Laws.Opening.{good_opened, long_bad, long-start}
 use Rattle.playing.specs.Playing.{Run, event_in, played, spelt}
 use Rattle.playing.proofs.Laws.Playing.{played-answers, played-spelt}
-use Rattle.schedule.specs.Runs.{refused_run, opened, run}
+use Rattle.schedule.specs.Runs.{told, refused_run, opened, run}
 
--- A start in the flat form with box size 1, as it is called, is along the flat tree.
-flat_start : (n : ℕ) (u : Started) → wrong_size n ≡ false → u ≡ started (tree_of flat_form 1) n flat_form 1 → (u.state ≡ fresh_state flat n flat_form 1) × (own_tree u.state ≡ flat)
-flat_start n u e g = (q, ap own_tree q ∙ ap₂ tree_of (fresh_form flat n flat_form 1) (fresh_span flat n flat_form 1) ∙ flat_form_lem 1)
-  where
-    q : u.state ≡ fresh_state flat n flat_form 1
-    q = ap (λ (x : Started). x.state) g ∙ (started-small (tree_of flat_form 1) n flat_form 1 (shape_right n flat_form 1 (flat_shapely n e))).1 ∙ ap (λ (anc : ℕ → ℕ). fresh_state anc n flat_form 1) (flat_form_lem 1)
+-- A start of no ranks hands back the empty state.
+pub start_none : (r : Result State Refused) (anc : ℕ → ℕ) (form span : ℕ) → start_told r ≡ started anc 0 form span → (start_told r).state ≡ empty_state
+start_none r anc form span e = ap (λ (x : Started). x.state) e ∙ start_of_none anc form span
 
--- The group that a good header starts is in order.
-pub opened_in_order : (file : List ℕ) (n t : ℕ) (h : Header) (u : Started) → h ≡ header file → h ≡ Good n t → u ≡ started (tree_of flat_form 1) n flat_form 1 → InOrder (own_tree u.state) u.state
-opened_in_order file n t h u e f g =
-    let o = good_opened file n t (sym f ∙ e) in
-    let q = flat_start n u o.size g in
-    subst (λ (anc : ℕ → ℕ). InOrder anc u.state) (sym q.1) (subst (InOrder flat) (sym q.0) (fresh_in_order flat n flat_form 1 (flat_shapely n o.size)))
+run_alike : (x y : Run) → x.answer ≡ y.answer → x.state ≡ y.state → x.answers ≡ y.answers → x ≡ y
+run_alike x y e f g =
+    ap {B = Run} (λ (n : ℕ). record { answer = n; state = x.state; answers = x.answers }) e
+    ∙ ap₂ {C = Run} (λ (s : State) (v : List ℕ). record { answer = y.answer; state = s; answers = v }) f g
 
--- What the three parts of a run's answer are.
-parts_of : (file out v : List ℕ) (a : ℕ) (s : State) (x : Run) → run file out ≡ x → a ≡ x.answer → s ≡ x.state → v ≡ x.answers
-    → (a ≡ (run file out).answer) × ((s ≡ (run file out).state) × (v ≡ (run file out).answers))
-parts_of file out v a s x e f g h = rw e (f, (g, h))
+-- ---- what a run answers, by its file's header
 
-refused-parts : (file out : List ℕ) (h : Header) (number a : ℕ) (s : State) → h ≡ header file → opened file out h ≡ refused_run number out → a ≡ number → s ≡ (refused_run number []).state
-    → (a ≡ (run file out).answer) × ((s ≡ (run file out).state) × (out ≡ (run file out).answers))
-unfolding run refused_run
-refused-parts file out h number a s e f g k = parts_of file out out a s (refused_run number out) (subst (λ (x : Header). opened file out x ≡ refused_run number out) e f) g k refl
-
-pub opened_bad : (file out : List ℕ) (k : Header) → goodness k ≡ false → opened file out k ≡ refused_run (number_of k) out
-unfolding opened
-opened_bad file out (Good n t) g = absurd (clash true refl g)
-opened_bad file out NoHeader g = refl
-opened_bad file out WrongMark g = refl
-opened_bad file out WrongVersion g = refl
-opened_bad file out WrongSize g = refl
-opened_bad file out TooLong g = refl
-opened_bad file out Broken g = refl
-
-pub run-refused : (file out : List ℕ) (h : Header) (number a : ℕ) (s : State) → h ≡ header file → goodness h ≡ false → number ≡ number_of h → a ≡ number → s ≡ (refused_run number []).state
-    → (a ≡ (run file out).answer) × ((s ≡ (run file out).state) × (out ≡ (run file out).answers))
-run-refused file out h number a s e g f = refused-parts file out h number a s e (opened_bad file out h g ∙ ap (λ (x : ℕ). refused_run x out) (sym f))
-
-opened_short : (file out : List ℕ) (h : Header) (n t : ℕ) → h ≡ Good n t → length out < 3 * t → opened file out h ≡ refused_run 25 out
-unfolding opened
-opened_short file out h n t e l = rw (e, lt-ltb (length out) (3 * t) l)
-
-pub run_no_room : (file out : List ℕ) (h : Header) (n t a : ℕ) (s : State) → h ≡ header file → h ≡ Good n t → length out < 3 * t → a ≡ 25 → s ≡ (refused_run 25 []).state
-    → (a ≡ (run file out).answer) × ((s ≡ (run file out).state) × (out ≡ (run file out).answers))
-run_no_room file out h n t a s e f l = refused-parts file out h 25 a s e (opened_short file out h n t f l)
-
-pub run-accepted : (file out o v : List ℕ) (h : Header) (n t : ℕ) (u : Started) (s : State) → h ≡ header file → h ≡ Good n t → 3 * t ≤ length out → u ≡ started (tree_of flat_form 1) n flat_form 1
-    → o ≡ spelt (event_at file) t out → s ≡ (played (own_tree u.state) (event_in o) t 0 u.state o).state → v ≡ (played (own_tree u.state) (event_in o) t 0 u.state o).answers
-    → (0 ≡ (run file out).answer) × ((s ≡ (run file out).state) × (v ≡ (run file out).answers))
+pub run-refused : (file out : List ℕ) (e : Refusal) → header file ≡ Err e → run file out ≡ refused_run (number e) out
 unfolding run opened
-run-accepted file out o v h n t u s e f l g eo i j =
-    let w = good_opened file n t (sym f ∙ e) in
-    let q = flat_start n u w.size g in
-    let p : played (own_tree u.state) (event_in o) t 0 u.state o ≡ played flat (event_at file) t 0 (fresh_state flat n flat_form 1) out =
-    ap (λ (anc : ℕ → ℕ). played anc (event_in o) t 0 u.state o) q.1 ∙ ap (λ (x : List ℕ). played flat (event_in x) t 0 u.state x) eo ∙ played-spelt flat (event_at file) t u.state out l ∙ ap (λ (x : State). played flat (event_at file) t 0 x out) q.0 in
-    parts_of file out v 0 s (played flat (event_at file) t 0 (fresh_state flat n flat_form 1) out)
-    (ap (opened file out) (sym e ∙ f) ∙ rw (le-ltb (length out) (3 * t) l)) (sym (played-answers flat (event_at file) t 0 (fresh_state flat n flat_form 1) out))
-    (i ∙ ap (λ (x : Run). x.state) p) (j ∙ ap (λ (x : Run). x.answers) p)
+run-refused file out e q = rw q
+
+pub told-refused : (file out : List ℕ) (e : Refusal) (r : Refused) → Err e ≡ header file → r ≡ record { refusal = e; state = empty_state } → told (Err r) out ≡ run file out
+unfolding refused_run
+told-refused file out e r q g = ap (λ (x : Refused). told (Err x) out) g ∙ sym (run-refused file out e (sym q))
+
+module _ (file out : List ℕ) (h : Header) (good : header file ≡ Ok h) where
+  pub run_no_room : length out < 3 * h.events → run file out ≡ refused_run 25 out
+  unfolding run opened
+  run_no_room l = rw (good, lt-ltb (length out) (3 * h.events) l)
+
+  pub told_no_room : (r : Refused) → length out < 3 * h.events → r ≡ record { refusal = FewPlaces; state = empty_state } → told (Err r) out ≡ run file out
+  unfolding refused_run
+  told_no_room r l g = ap (λ (x : Refused). told (Err x) out) g ∙ sym (run_no_room l)
+
+  opened_played : 3 * h.events ≤ length out → run file out ≡ played flat (event_at file) h.events 0 (fresh_state flat h.n flat_form 1) out
+  unfolding run opened
+  opened_played l = rw (good, le-ltb (length out) (3 * h.events) l)
+
+  -- It is started in the flat form with box size 1, and that is along the flat tree.
+  flat_start : (u : Started) → u ≡ started (tree_of flat_form 1) h.n flat_form 1 → (u.answer ≡ 0) × (u.state ≡ fresh_state flat h.n flat_form 1)
+  flat_start u g =
+      let small = started-small (tree_of flat_form 1) h.n flat_form 1 (shape_right h.n flat_form 1 (flat_shapely h.n (good_opened file h good).size)) in
+      (ap (λ (x : Started). x.answer) g ∙ small.0, ap (λ (x : Started). x.state) g ∙ small.1 ∙ ap (λ (anc : ℕ → ℕ). fresh_state anc h.n flat_form 1) (flat_form_lem 1))
+
+  -- The start isn't refused,
+  pub start_good : (r : Refused) → start_told (Err r) ≡ started (tree_of flat_form 1) h.n flat_form 1 → ⊥
+  start_good r g = not_accepted r.refusal (flat_start (start_told (Err r)) g).0
+
+  module _ (s : State) (g : start_told (Ok s) ≡ started (tree_of flat_form 1) h.n flat_form 1) where
+    fresh_is : s ≡ fresh_state flat h.n flat_form 1
+    fresh_is = (flat_start (start_told (Ok s)) g).1
+
+    own_flat : own_tree s ≡ flat
+    own_flat = ap own_tree fresh_is ∙ ap₂ tree_of (fresh_form flat h.n flat_form 1) (fresh_span flat h.n flat_form 1) ∙ flat_form_lem 1
+
+    -- its group is in order,
+    pub opened_in_order : InOrder (own_tree s) s
+    opened_in_order = subst (λ (anc : ℕ → ℕ). InOrder anc s) (sym own_flat) (subst (InOrder flat) (sym fresh_is) (fresh_in_order flat h.n flat_form 1 (flat_shapely h.n (good_opened file h good).size)))
+
+    -- and what is played on it, of the events that are spelt out, is the run.
+    pub told_accepted : (spelled v : List ℕ) (x : State) → 3 * h.events ≤ length out → spelled ≡ spelt (event_at file) h.events out
+        → x ≡ (played (own_tree s) (event_in spelled) h.events 0 s spelled).state → v ≡ (played (own_tree s) (event_in spelled) h.events 0 s spelled).answers → told (Ok x) v ≡ run file out
+    told_accepted spelled v x l e f g =
+        let p : played (own_tree s) (event_in spelled) h.events 0 s spelled ≡ run file out =
+        ap (λ (anc : ℕ → ℕ). played anc (event_in spelled) h.events 0 s spelled) own_flat ∙ ap (λ (y : List ℕ). played flat (event_in y) h.events 0 s y) e
+        ∙ played-spelt flat (event_at file) h.events s out l ∙ ap (λ (y : State). played flat (event_at file) h.events 0 y out) fresh_is ∙ sym (opened_played l) in
+        let z = played-answers flat (event_at file) h.events 0 (fresh_state flat h.n flat_form 1) out in
+        run_alike (told (Ok x) v) (run file out) (sym (ap (λ (y : Run). y.answer) (opened_played l) ∙ z)) (f ∙ ap (λ (y : Run). y.state) p) (g ∙ ap (λ (y : Run). y.answers) p)
 
 -- ---- a file that is too long
-
-long-run : (file out : List ℕ) → longest < length file → run file out ≡ refused_run (number_of (header file)) out
-unfolding run
-long-run file out l = opened_bad file out (header file) (long_bad file l)
 
 -- It is refused,
 pub long-refused : (file out : List ℕ) → longest < length file → (run file out).answer ≡ 0 → ⊥
 unfolding refused_run
-long-refused file out l z = bad_number (header file) (long_bad file l) (sym (ap (λ (x : Run). x.answer) (long-run file out l)) ∙ z)
+long-refused file out l z = let b = long_bad file l in not_accepted b.0 (sym (ap (λ (x : Run). x.answer) (run-refused file out b.0 b.1)) ∙ z)
 
 -- and alike whatever follows the bytes that show it.
 pub long_alike : (file out : List ℕ) (n : ℕ) → longest < n → n ≤ length file → run (take n file) out ≡ run file out
 long_alike file out n l m =
-    let e : length (take n file) ≡ n = length-take-le n file m in
-    long-run (take n file) out (omega arith) ∙ ap (λ (h : Header). refused_run (number_of h) out) (long-start file n l m) ∙ sym (long-run file out (omega arith))
+    let b = long_bad file (omega arith) in
+    run-refused (take n file) out b.0 (long-start file n l m ∙ b.1) ∙ sym (run-refused file out b.0 b.1)

@@ -1,23 +1,24 @@
 -- What a run writes does not depend on what the slice held: the same answer, the same final state, and the same number at every place that an
 -- event writes. Assumes nothing.
 use mathlib.Core.Path.{◌≡◌, refl, sym, ap, ◌∙◌}
-use mathlib.Core.Bool.{false}
 use mathlib.Core.List.{List}
 use Prim.Native.Nat.{ℕ, ◌+◌, ◌*◌, ◌≤◌, ◌<◌}
 use native.Mathlib.Omega.{arith}
 use lib.ListN.{length, get_or}
 use borrow.Author.Tests.{le-ltb}
+use Rattle.std.specs.Prelude.{Result, Ok, Err}
+use Rattle.answers.specs.declared.Refusal.{Refusal}
+use Rattle.state.proofs.Laws.Starting.{not_accepted}
 use Rattle.tree.specs.Tree.{flat}
 use Rattle.tree.specs.Forms.{flat_form}
 use Rattle.state.specs.Starting.{fresh_state}
 use Rattle.files.specs.declared.Header.{Header}
-use Rattle.files.specs.declared.Header.TheVariants.{Good, NoHeader, WrongMark, WrongVersion, WrongSize, TooLong, Broken}
-use Rattle.files.specs.Files.{most_events, longest, event_at, events_in, header, number_of}
-use Rattle.files.proofs.Laws.Opening.{goodness, good_opened, bad_number}
+use Rattle.files.specs.Files.{most_events, longest, event_at, events_in, header}
+use Rattle.files.proofs.Laws.Opening.{good_opened}
 use Rattle.playing.specs.Playing.{Run, played}
 use Rattle.playing.proofs.Laws.Playing.{played-answers, states_agree, answers_agree}
 use Rattle.schedule.specs.Runs.{refused_run, opened, run}
-use Rattle.schedule.proofs.Laws.Opening.{opened_bad}
+use Rattle.schedule.proofs.Laws.Opening.{run-refused}
 
 -- the first m numbers are the same
 abbrev pub Agree : List ℕ → List ℕ → ℕ → Type 0
@@ -35,35 +36,32 @@ pub same-run : (file a b : List ℕ) → 3 * most_events ≤ length a → 3 * mo
 unfolding run opened refused_run
 same-run file a b ra rb = from (header file) refl
   where
-    good : (n t : ℕ) → header file ≡ Good n t → SameRun file a b
-    good n t h =
-        let o = good_opened file n t (sym h) in
+    good : (h : Header) → header file ≡ Ok h → SameRun file a b
+    good h e =
+        let n = h.n in
+        let t = h.events in
+        let o = good_opened file h e in
         let w : 6 + 9 * t ≤ length file = o.whole in
         let s : length file ≤ longest = o.short in
         let la : 3 * t ≤ length a = omega arith in
         let lb : 3 * t ≤ length b = omega arith in
         let g : Agree (played flat (event_at file) t 0 (fresh_state flat n flat_form 1) a).answers (played flat (event_at file) t 0 (fresh_state flat n flat_form 1) b).answers (3 * (0 + t)) = answers_agree flat (event_at file) t 0 (fresh_state flat n flat_form 1) a b (omega arith) (omega arith) (λ j k. absurd (omega arith)) in
         record {
-          answer-same = rw (h, le-ltb (length a) (3 * t) la, le-ltb (length b) (3 * t) lb) (played-answers flat (event_at file) t 0 (fresh_state flat n flat_form 1) a ∙ sym (played-answers flat (event_at file) t 0 (fresh_state flat n flat_form 1) b));
-          state-same = rw (h, le-ltb (length a) (3 * t) la, le-ltb (length b) (3 * t) lb) (states_agree flat (event_at file) t 0 (fresh_state flat n flat_form 1) a b);
-          answers-same = λ z. rw (h, le-ltb (length a) (3 * t) la, le-ltb (length b) (3 * t) lb) (λ j k. g j (omega (arith, o.events_are)));
+          answer-same = rw (e, le-ltb (length a) (3 * t) la, le-ltb (length b) (3 * t) lb) (played-answers flat (event_at file) t 0 (fresh_state flat n flat_form 1) a ∙ sym (played-answers flat (event_at file) t 0 (fresh_state flat n flat_form 1) b));
+          state-same = rw (e, le-ltb (length a) (3 * t) la, le-ltb (length b) (3 * t) lb) (states_agree flat (event_at file) t 0 (fresh_state flat n flat_form 1) a b);
+          answers-same = λ z. rw (e, le-ltb (length a) (3 * t) la, le-ltb (length b) (3 * t) lb) (λ j k. g j (omega (arith, o.events_are)));
         }
 
-    bad : (h : Header) → header file ≡ h → goodness h ≡ false → SameRun file a b
-    bad h f g =
-        let p : run file a ≡ refused_run (number_of h) a = ap (opened file a) f ∙ opened_bad file a h g in
-        let q : run file b ≡ refused_run (number_of h) b = ap (opened file b) f ∙ opened_bad file b h g in
+    bad : (e : Refusal) → header file ≡ Err e → SameRun file a b
+    bad e q =
+        let p = run-refused file a e q in
+        let r = run-refused file b e q in
         record {
-          answer-same = ap (λ (x : Run). x.answer) p ∙ sym (ap (λ (x : Run). x.answer) q);
-          state-same = ap (λ (x : Run). x.state) p ∙ sym (ap (λ (x : Run). x.state) q);
-          answers-same = λ z. absurd (bad_number h g (sym (ap (λ (x : Run). x.answer) p) ∙ z));
+          answer-same = ap (λ (x : Run). x.answer) p ∙ sym (ap (λ (x : Run). x.answer) r);
+          state-same = ap (λ (x : Run). x.state) p ∙ sym (ap (λ (x : Run). x.state) r);
+          answers-same = λ z. absurd (not_accepted e (sym (ap (λ (x : Run). x.answer) p) ∙ z));
         }
 
-    from : (h : Header) → header file ≡ h → SameRun file a b
-    from (Good n t) h = good n t h
-    from NoHeader h = bad NoHeader h refl
-    from WrongMark h = bad WrongMark h refl
-    from WrongVersion h = bad WrongVersion h refl
-    from WrongSize h = bad WrongSize h refl
-    from TooLong h = bad TooLong h refl
-    from Broken h = bad Broken h refl
+    from : (r : Result Header Refusal) → header file ≡ r → SameRun file a b
+    from (Ok h) e = good h e
+    from (Err e) q = bad e q

@@ -1,10 +1,12 @@
 -- A run is the run by steps: every state on its way is in order, so `event` is the step. Assumes nothing.
-use mathlib.Core.Path.{◌≡◌, refl, sym, ap, ◌∙◌}
+use mathlib.Core.Path.{◌≡◌, refl, ap, ◌∙◌}
 use mathlib.Core.Bool.{cond}
 use mathlib.Core.List.{List}
 use Prim.Native.Nat.{ℕ, zero, suc, ◌+◌, ◌*◌}
 use lib.Dec.{ltb}
 use lib.ListN.{length}
+use Rattle.std.specs.Prelude.{Result, Ok, Err}
+use Rattle.answers.specs.declared.Refusal.{Refusal}
 use Rattle.tree.specs.Tree.{flat}
 use Rattle.tree.specs.Forms.{flat_form}
 use Rattle.calls.proofs.Laws.Shapes.{flat_shapely}
@@ -19,7 +21,6 @@ use Rattle.group.proofs.Laws.Preserving.{step_keeps_order}
 use Rattle.playing.specs.Playing.{Run, told, played}
 use Rattle.playing.proofs.Laws.Playing.{played-none, played-tells}
 use Rattle.files.specs.declared.Header.{Header}
-use Rattle.files.specs.declared.Header.TheVariants.{Good, NoHeader, WrongMark, WrongVersion, WrongSize, TooLong, Broken}
 use Rattle.files.specs.Files.{event_at, header}
 use Rattle.files.proofs.Laws.Opening.{good_opened}
 use Rattle.schedule.specs.Runs.{refused_run, opened, run}
@@ -36,14 +37,9 @@ pub run_steps : (file out : List ℕ) → run file out ≡ stepped_run file out
 unfolding run opened stepped_on stepped_run
 run_steps file out = go (header file) refl
   where
-    go : (h : Header) → header file ≡ h → opened file out h ≡ stepped_on file out h
-    go (Good n events) e =
-        let o = good_opened file n events (sym e) in
-        ap (λ (r : Run). cond (ltb (length out) (3 * events)) (refused_run 25 out) r)
-        (played_steps (event_at file) events 0 (fresh_state flat n flat_form 1) out (fresh_in_order flat n flat_form 1 (flat_shapely n o.size)))
-    go NoHeader e = refl
-    go WrongMark e = refl
-    go WrongVersion e = refl
-    go WrongSize e = refl
-    go TooLong e = refl
-    go Broken e = refl
+    go : (r : Result Header Refusal) → header file ≡ r → opened file out r ≡ stepped_on file out r
+    go (Ok h) e =
+        let o = good_opened file h e in
+        ap (λ (r : Run). cond (ltb (length out) (3 * h.events)) (refused_run 25 out) r)
+        (played_steps (event_at file) h.events 0 (fresh_state flat h.n flat_form 1) out (fresh_in_order flat h.n flat_form 1 (flat_shapely h.n o.size)))
+    go (Err e) q = refl

@@ -1,44 +1,34 @@
 -- `run` meets its contract: a bad header, no room for the answers, or the play. Assumes nothing.
-use Rattle.playing.proofs.Laws.Slices.{spelt-room}
-use Rattle.files.proofs.Laws.Opening.{opened_whole, not_good}
-use Rattle.schedule.proofs.Laws.Opening.{run-refused, run_no_room, run-accepted, opened_in_order}
+use native.Mathlib.Omega.{arith}
+use Rattle.std.proofs.lemmas.Grind.{common_steps}
+use Rattle.std.proofs.Common.{List, ℕ, ◌≡◌, Result, Ok, Err, MatchResult, sym, ◌∙◌}
+use Rattle.answers.specs.declared.Refusal.{Refusal}
+use Rattle.state.specs.declared.Refused.{Refused}
+use Rattle.files.specs.declared.Header.{Header}
+use Rattle.files.specs.Files.{header}
+use Rattle.files.proofs.Laws.Opening.{good_opened}
+use Rattle.schedule.proofs.Laws.Opening.{told-refused, told_no_room, start_good, opened_in_order, told_accepted}
 use Rattle.schedule.proofs.run.Goals as goal
 
-pub returns-in_default-clause-answer_value : goal.returns-in_default-clause-answer_value
-returns-in_default-clause-answer_value c = (run-refused _ _ _ _ _ _ c.read_header-h.ensures (not_good c.read_header-h.result c.in_default.not-Good) c.number_of.ensures c.refuse.ensures.answer_value c.refuse.ensures.state_value).0
+-- A header that was good when its refusal was mapped was good before.
+good : (file : List ℕ) (r : Result Header Refusal) (h : Header) → r ≡ header file → MatchResult r (λ (x : Header). let t : Result Header Refused = Ok h in t ≡ Ok x) (λ e. ⊥) → header file ≡ Ok h
+good file (Ok x) h e m = sym e ∙ cc
+good file (Err f) h e m = absurd m
 
-pub returns-in_default-clause-state_value : goal.returns-in_default-clause-state_value
-returns-in_default-clause-state_value c = (run-refused _ _ _ _ _ _ c.read_header-h.ensures (not_good c.read_header-h.result c.in_default.not-Good) c.number_of.ensures c.refuse.ensures.answer_value c.refuse.ensures.state_value).1.0
+pub returns-in_err-h : goal.returns-in_err-h
+returns-in_err-h c = grind (arith, common_steps, told-refused)
 
-pub returns-in_default-clause-out_after : goal.returns-in_default-clause-out_after
-returns-in_default-clause-out_after c = (run-refused _ _ _ _ _ _ c.read_header-h.ensures (not_good c.read_header-h.result c.in_default.not-Good) c.number_of.ensures c.refuse.ensures.answer_value c.refuse.ensures.state_value).1.1
+pub returns-then-out-total : goal.returns-then-out-total
+returns-then-out-total c = told_no_room _ _ _ (good _ _ _ c.read_header.ensures c.in_ok-h.ensures.cases) _ c.if-out-total.true c.refused.ensures
 
-pub returns-then-out-total-clause-answer_value : goal.returns-then-out-total-clause-answer_value
-returns-then-out-total-clause-answer_value c = (run_no_room _ _ _ _ _ _ _ c.read_header-h.ensures c.in-Good.is c.if-out-total.true c.refuse-then-out-total.ensures.answer_value c.refuse-then-out-total.ensures.state_value).0
-
-pub returns-then-out-total-clause-state_value : goal.returns-then-out-total-clause-state_value
-returns-then-out-total-clause-state_value c = (run_no_room _ _ _ _ _ _ _ c.read_header-h.ensures c.in-Good.is c.if-out-total.true c.refuse-then-out-total.ensures.answer_value c.refuse-then-out-total.ensures.state_value).1.0
-
-pub returns-then-out-total-clause-out_after : goal.returns-then-out-total-clause-out_after
-returns-then-out-total-clause-out_after c = (run_no_room _ _ _ _ _ _ _ c.read_header-h.ensures c.in-Good.is c.if-out-total.true c.refuse-then-out-total.ensures.answer_value c.refuse-then-out-total.ensures.state_value).1.1
+pub returns-in_err-fresh : goal.returns-in_err-fresh
+returns-in_err-fresh c = absurd (start_good _ c.args.out.now _ (good _ _ _ c.read_header.ensures c.in_ok-h.ensures.cases) _ c.in_err-fresh.ensures)
 
 pub spell-requires-clause-total_in_bounds : goal.spell-requires-clause-total_in_bounds
-spell-requires-clause-total_in_bounds c = opened_whole _ _ _ _ c.read_header-h.ensures c.in-Good.is
-
-pub spell-requires-clause-total_in_bounds_2 : goal.spell-requires-clause-total_in_bounds_2
-spell-requires-clause-total_in_bounds_2 c = c.if-out-total.false
+spell-requires-clause-total_in_bounds c = (good_opened _ _ (good _ _ _ c.read_header.ensures c.in_ok-h.ensures.cases)).whole
 
 pub play-requires-clause-in_order : goal.play-requires-clause-in_order
-play-requires-clause-in_order c = opened_in_order _ _ _ _ _ c.read_header-h.ensures c.in-Good.is c.start-started.ensures
+play-requires-clause-in_order c = opened_in_order _ c.args.out.now _ (good _ _ _ c.read_header.ensures c.in_ok-h.ensures.cases) _ c.in_ok-fresh.ensures
 
-pub play-requires-clause-total_in_bounds : goal.play-requires-clause-total_in_bounds
-play-requires-clause-total_in_bounds c = spelt-room _ _ _ _ c.spell.ensures c.if-out-total.false
-
-pub returns-clause-answer_value : goal.returns-clause-answer_value
-returns-clause-answer_value c = (run-accepted _ _ _ _ _ _ _ _ _ c.read_header-h.ensures c.in-Good.is c.if-out-total.false c.start-started.ensures c.spell.ensures c.play.ensures.value c.play.ensures.out_after).0
-
-pub returns-clause-state_value : goal.returns-clause-state_value
-returns-clause-state_value c = (run-accepted _ _ _ _ _ _ _ _ _ c.read_header-h.ensures c.in-Good.is c.if-out-total.false c.start-started.ensures c.spell.ensures c.play.ensures.value c.play.ensures.out_after).1.0
-
-pub returns-clause-out_after : goal.returns-clause-out_after
-returns-clause-out_after c = (run-accepted _ _ _ _ _ _ _ _ _ c.read_header-h.ensures c.in-Good.is c.if-out-total.false c.start-started.ensures c.spell.ensures c.play.ensures.value c.play.ensures.out_after).1.1
+pub returns : goal.returns
+returns c = told_accepted _ _ _ (good _ _ _ c.read_header.ensures c.in_ok-h.ensures.cases) _ c.in_ok-fresh.ensures _ _ _ c.if-out-total.false c.spell.ensures c.play.ensures.value c.play.ensures.out_after

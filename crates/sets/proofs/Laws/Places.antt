@@ -2,18 +2,15 @@
 use mathlib.Core.Path.{◌≡◌, refl, sym, ap, ◌∙◌}
 use mathlib.Core.Bool.{Bool, true, false, cond}
 use mathlib.Core.List.{List}
-use mathlib.Core.Logic.{⊎_elim}
 use Prim.Native.Nat.{ℕ, zero, suc, ◌+◌, ◌*◌, ◌%◌, ◌^◌, ◌≤◌, ◌<◌}
 use native.Mathlib.Omega.{arith}
 use native.Mathlib.Nat.{mul-add}
 use native.Mathlib.Numerals.{add-one}
 use lib.Dec.{eqb}
 use lib.Bits.{bit_or, or_shifted_r}
-use lib.ListN.{length, get_or, set, length-set}
-use lib.Pow.{pow-add, pow_mono}
-use lib.Seq.{get_or-set_same, get_or-set_other}
+use lib.ListN.{get_or}
+use lib.Pow.{pow-add}
 use Rattle.sets.specs.Sets.{set_of, add, union, only}
-use Rattle.sets.proofs.Laws.Bools.{eq_or_ne}
 use Rattle.sets.proofs.Laws.Members.{set_of-lt, set_of-zero}
 
 joined : (x p : ℕ) → bit_or x (1 * p) ≡ 1 * p + x → bit_or x p ≡ x + p
@@ -55,9 +52,6 @@ pub record Summing (flags : List ℕ) (k j sum : ℕ) : Type 0 where
 pub summing_start : (flags : List ℕ) (k : ℕ) → Summing flags k 0 0
 summing_start flags k = record { within = omega arith; small = omega arith; is = λ f h. sym (set_of-zero f) }
 
-pub summing_fits : (flags : List ℕ) (k j sum v : ℕ) → Summing flags k j sum → j < 8 → v ≤ 2 ^ j → sum + v < 256
-summing_fits flags k j sum v s l h = let m : 2 ^ j ≤ 2 ^ 7 = pow_mono {i = j} {j = 7} (omega arith) in omega (arith, s.small)
-
 pub summing_step : (flags : List ℕ) (k j sum more : ℕ) → Summing flags k j sum → j < 8 → get_or flags (8 * k + j) 0 ≤ 2 ^ j → more ≡ sum + get_or flags (8 * k + j) 0 → Summing flags k (j + 1) more
 summing_step flags k j sum more s l h e = record {
   within = omega arith;
@@ -65,34 +59,10 @@ summing_step flags k j sum more s l h e = record {
   is = λ f g. e ∙ ap (λ (x : ℕ). x + get_or flags (8 * k + j) 0) (s.is f g) ∙ ap (λ (x : ℕ). set_of f j + x) (g j l) ∙ sym (set_of_sum f j) ∙ ap (set_of f) (sym (add-one j));
 }
 
-pub summing_end : (flags : List ℕ) (k j sum : ℕ) → Summing flags k j sum → 8 ≤ j → (f : ℕ → Bool) → ((i : ℕ) → i < 8 → get_or flags (8 * k + i) 0 ≡ cond (f i) (2 ^ i) 0) → sum ≡ set_of f 8
-summing_end flags k j sum s l f g = let e : j ≡ 8 = omega (arith, s.within) in s.is f g ∙ ap (set_of f) e
-
 -- ---- the flags of a row
 
 abbrev pub Flagged : (ℕ → Bool) → List ℕ → ℕ → Type 0
 Flagged f flags n = (p : ℕ) → p < n → get_or flags p 0 ≡ cond (f p) (2 ^ (p % 8)) 0
-
-pub record Flagging (f : ℕ → Bool) (n : ℕ) (flags : List ℕ) : Type 0 where
-  pub within : n ≤ 64
-  pub long : length flags ≡ 64
-  pub done : Flagged f flags n
-
-pub flagging_start : (f : ℕ → Bool) (flags : List ℕ) → length flags ≡ 64 → Flagging f 0 flags
-flagging_start f flags l = record { within = omega arith; long = l; done = λ p b. absurd (omega arith) }
-
-pub flagging_put : (f : ℕ → Bool) (p v : ℕ) (flags more : List ℕ) → Flagging f p flags → p < 64 → v ≡ cond (f p) (2 ^ (p % 8)) 0 → more ≡ set flags p v → Flagging f (p + 1) more
-flagging_put f p v flags more s l e m = record {
-  within = omega arith;
-  long = ap length m ∙ length-set flags p v ∙ s.long;
-  done = λ k b. ap (λ (x : List ℕ). get_or x k 0) m ∙ ⊎_elim (here k) (λ (d : k ≡ p → ⊥). get_or-set_other flags p k v 0 d ∙ s.done k (omega arith)) (eq_or_ne k p);
-}
-  where
-    here : (k : ℕ) → k ≡ p → get_or (set flags p v) k 0 ≡ cond (f k) (2 ^ (k % 8)) 0
-    here k q = ap (λ (j : ℕ). get_or (set flags p v) j 0) q ∙ get_or-set_same flags p v 0 (omega (arith, s.long)) ∙ e ∙ ap (λ (j : ℕ). cond (f j) (2 ^ (j % 8)) 0) (sym q)
-
-pub flagging_end : (f : ℕ → Bool) (n : ℕ) (flags : List ℕ) → Flagging f n flags → 64 ≤ n → Flagged f flags 64
-flagging_end f n flags s l p b = s.done p (omega arith)
 
 -- eight of them
 abbrev pub standing : List ℕ → ℕ → ℕ → Bool
@@ -100,13 +70,6 @@ standing row q p = eqb (get_or row p 0) q
 
 pub flagged_eight : (row : List ℕ) (q : ℕ) (flags : List ℕ) (k : ℕ) → Flagged (standing row q) flags 64 → k < 8 → (j : ℕ) → j < 8 → get_or flags (8 * k + j) 0 ≡ cond (standing row q (8 * k + j)) (2 ^ j) 0
 flagged_eight row q flags k h a j b = let e : (8 * k + j) % 8 ≡ j = omega arith in h (8 * k + j) (omega arith) ∙ ap (λ (x : ℕ). cond (standing row q (8 * k + j)) (2 ^ x) 0) e
-
-at_most : (b : Bool) (x y : ℕ) → y ≡ cond b x 0 → y ≤ x
-at_most true x y e = omega arith
-at_most false x y e = omega arith
-
-pub flagged_small : (row : List ℕ) (q : ℕ) (flags : List ℕ) (k : ℕ) → Flagged (standing row q) flags 64 → k < 8 → (j : ℕ) → j < 8 → get_or flags (8 * k + j) 0 ≤ 2 ^ j
-flagged_small row q flags k h a j b = at_most (standing row q (8 * k + j)) (2 ^ j) (get_or flags (8 * k + j) 0) (flagged_eight row q flags k h a j b)
 
 -- and eight bytes
 one-octet : (f : ℕ → Bool) (k z o : ℕ) → 2 ^ (8 * k) ≡ z → o ≡ set_of (λ j. f (8 * k + j)) 8 → set_of f (8 * k + 8) ≡ set_of f (8 * k) + z * o

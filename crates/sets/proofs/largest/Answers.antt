@@ -1,20 +1,16 @@
 -- `sets::largest` meets its contract: the zeros above the largest member, that member and those below it make 64.
 -- Assumes nothing.
-use mathlib.Core.Path.{ap, sym, ◌∙◌}
+use mathlib.Core.Path.{ap, ◌∙◌}
 use Prim.Native.Nat.{ℕ, ◌<◌}
 use native.Mathlib.Omega.{arith}
 use Rattle.sets.specs.Sets.{has, largest, none}
 use Rattle.sets.proofs.Laws.Counts.{leading_largest, empty_largest}
+use Rattle.sets.proofs.Laws.Found.{found-none, found-some}
 use Rattle.sets.proofs.largest.Goals as goal
 
 pub returns-then-w-eq0 : goal.returns-then-w-eq0
-returns-then-w-eq0 c = sym (ap (λ (w : ℕ). largest (has w) 64 none) c.if-w-eq0.true ∙ empty_largest 64 none)
-
-some : (c : goal.Else-w-eq0) → 0 < c.args.w
-some c = omega arith
-
-pub overflow_sub-result : goal.overflow_sub-result
-overflow_sub-result c = omega (arith, leading_largest 64 c.args.w none (some c) c.ranges.w.fits)
+returns-then-w-eq0 c = found-none _ (ap (λ (w : ℕ). largest (has w) 64 none) c.if-w-eq0.true ∙ empty_largest 64 none)
 
 pub returns : goal.returns
-returns c = omega (arith, leading_largest 64 c.args.w none (some c) c.ranges.w.fits)
+returns c = let some : 0 < c.args.w = omega arith in
+    found-some _ _ (omega (arith, leading_largest 64 c.args.w none some c.ranges.w.fits)) (omega arith)

@@ -1,56 +1,8 @@
 -- `sets::places` meets its contract: eight bytes, each of eight flags, are the digits of the set. Assumes nothing.
 use Prim.Native.Nat.{◌+◌}
 use native.Mathlib.Omega.{arith}
-use Rattle.sets.proofs.Laws.Places.{standing, flagged_eight, flagged_small, eight_octets}
+use Rattle.sets.proofs.Laws.Places.{standing, flagged_eight, eight_octets}
 use Rattle.sets.proofs.places.Goals as goal
-
-pub octet-requires-clause-k_bound : goal.octet-requires-clause-k_bound
-octet-requires-clause-k_bound c = omega arith
-
-pub octet-requires-clause-by_index : goal.octet-requires-clause-by_index
-octet-requires-clause-by_index c = flagged_small c.args.row c.args.q c.flags-f.result 0 c.flags-f.ensures (omega arith)
-
-pub octet-requires-2-clause-k_bound : goal.octet-requires-2-clause-k_bound
-octet-requires-2-clause-k_bound c = omega arith
-
-pub octet-requires-2-clause-by_index : goal.octet-requires-2-clause-by_index
-octet-requires-2-clause-by_index c = flagged_small c.args.row c.args.q c.flags-f.result 1 c.flags-f.ensures (omega arith)
-
-pub octet-requires-3-clause-k_bound : goal.octet-requires-3-clause-k_bound
-octet-requires-3-clause-k_bound c = omega arith
-
-pub octet-requires-3-clause-by_index : goal.octet-requires-3-clause-by_index
-octet-requires-3-clause-by_index c = flagged_small c.args.row c.args.q c.flags-f.result 2 c.flags-f.ensures (omega arith)
-
-pub octet-requires-4-clause-k_bound : goal.octet-requires-4-clause-k_bound
-octet-requires-4-clause-k_bound c = omega arith
-
-pub octet-requires-4-clause-by_index : goal.octet-requires-4-clause-by_index
-octet-requires-4-clause-by_index c = flagged_small c.args.row c.args.q c.flags-f.result 3 c.flags-f.ensures (omega arith)
-
-pub octet-requires-5-clause-k_bound : goal.octet-requires-5-clause-k_bound
-octet-requires-5-clause-k_bound c = omega arith
-
-pub octet-requires-5-clause-by_index : goal.octet-requires-5-clause-by_index
-octet-requires-5-clause-by_index c = flagged_small c.args.row c.args.q c.flags-f.result 4 c.flags-f.ensures (omega arith)
-
-pub octet-requires-6-clause-k_bound : goal.octet-requires-6-clause-k_bound
-octet-requires-6-clause-k_bound c = omega arith
-
-pub octet-requires-6-clause-by_index : goal.octet-requires-6-clause-by_index
-octet-requires-6-clause-by_index c = flagged_small c.args.row c.args.q c.flags-f.result 5 c.flags-f.ensures (omega arith)
-
-pub octet-requires-7-clause-k_bound : goal.octet-requires-7-clause-k_bound
-octet-requires-7-clause-k_bound c = omega arith
-
-pub octet-requires-7-clause-by_index : goal.octet-requires-7-clause-by_index
-octet-requires-7-clause-by_index c = flagged_small c.args.row c.args.q c.flags-f.result 6 c.flags-f.ensures (omega arith)
-
-pub octet-requires-8-clause-k_bound : goal.octet-requires-8-clause-k_bound
-octet-requires-8-clause-k_bound c = omega arith
-
-pub octet-requires-8-clause-by_index : goal.octet-requires-8-clause-by_index
-octet-requires-8-clause-by_index c = flagged_small c.args.row c.args.q c.flags-f.result 7 c.flags-f.ensures (omega arith)
 
 pub returns : goal.returns
 returns c = let row = c.args.row in

@@ -7,7 +7,12 @@ use native.Mathlib.Omega.{arith}
 use lib.ListN.{length, set, replicate, length-replicate, get_or-replicate}
 use borrow.Author.Tests.{lt-ltb, le-ltb, eq-eqb, ne_eqb}
 use Rattle.sets.specs.Sets.{none}
-use Rattle.sets.proofs.Laws.Bools.{eq_or_ne}
+use Rattle.answers.specs.declared.Refusal.{Refusal}
+use Rattle.answers.specs.Answers.{number}
+use Rattle.answers.proofs.Laws.Numbers.{number-one_to_one, number-not_0}
+use Rattle.std.specs.Prelude.{Result, Ok, Err}
+use lib.Dec.{eqb}
+use Rattle.sets.proofs.Laws.Bools.{clash, eq_or_ne}
 use Rattle.tree.specs.Tree.{row, fresh}
 use Rattle.tree.specs.Forms.{tree_of, flat_form}
 use Rattle.calls.specs.Calls.{misshapen}
@@ -19,9 +24,9 @@ use Rattle.rank.specs.declared.Message.{Message}
 use Rattle.rank.specs.Records.{fresh_rank}
 use Rattle.net.specs.Net.{zero_message}
 use Rattle.state.specs.declared.State.{State}
-use Rattle.state.specs.declared.Started.{Started}
 use Rattle.state.specs.States.{zero_rank, joined, rank_at, row_at, place_at, with_box}
-use Rattle.state.specs.Starting.{first_rank, first_row, fresh_state, empty_state, started}
+use Rattle.state.specs.declared.Refused.{Refused}
+use Rattle.state.specs.Starting.{Started, told, first_rank, first_row, fresh_state, empty_state, started}
 
 -- a place is filled up to i
 pub record Filled {A : Type 0} (d : A) (f : ℕ → A) (e : A) (n i : ℕ) (t : List A) : Type 0 where
@@ -67,13 +72,13 @@ module _ (anc : ℕ → ℕ) (n : ℕ) where
   rows_end i t p l = patched_end [] (first_row anc n) (λ k. replicate 64 none) 64 i t p.table (λ k h b. first-row-past k (omega arith))
 
 module _ (anc : ℕ → ℕ) (n form span : ℕ) where
-  pub start-refused : (k : ℕ) (u : State) → k ≡ misshapen n form span → (k ≡ 0 → ⊥) → u ≡ empty_state → ◌≡◌ {A = Started} (record { answer = k; state = u }) (started anc n form span)
+  pub start-refused : (e : Refusal) (u : State) → number e ≡ misshapen n form span → u ≡ empty_state → ◌≡◌ {A = Started} (record { answer = number e; state = u }) (started anc n form span)
   unfolding started
-  start-refused k u e d g = ap₂ (λ (x : ℕ) (y : State). record { answer = x; state = y }) e g ∙ rw (ne_eqb (misshapen n form span) 0 (λ z. d (e ∙ z)))
+  start-refused e u h g = rw (← h, number-not_0 e) (ap (λ (x : State). record { answer = number e; state = x }) g)
 
-  pub start-accepted : (k : ℕ) (u : State) → k ≡ misshapen n form span → k ≡ 0 → u ≡ fresh_state anc n form span → ◌≡◌ {A = Started} (record { answer = k; state = u }) (started anc n form span)
+  pub start-accepted : (u : State) → 0 ≡ misshapen n form span → u ≡ fresh_state anc n form span → ◌≡◌ {A = Started} (record { answer = 0; state = u }) (started anc n form span)
   unfolding started
-  start-accepted k u e z g = ap₂ (λ (x : ℕ) (y : State). record { answer = x; state = y }) z g ∙ rw (eq-eqb (misshapen n form span) 0 (sym e ∙ z))
+  start-accepted u h g = rw (← h) (ap (λ (x : State). record { answer = 0; state = x }) g)
 
 -- A start of the right size, form and box size gives a fresh group, and no other start is accepted.
 pub started-small : (anc : ℕ → ℕ) (n form span : ℕ) → misshapen n form span ≡ 0 → ((started anc n form span).answer ≡ 0) × ((started anc n form span).state ≡ fresh_state anc n form span)
@@ -97,6 +102,21 @@ empty_size = refl
 pub start_of_none : (anc : ℕ → ℕ) (form span : ℕ) → (started anc 0 form span).state ≡ empty_state
 unfolding started
 start_of_none anc form span = rw (shape-none form span)
+
+-- ---- replies
+
+-- A refusal is not answered with 0.
+pub not_accepted : (r : Refusal) → number r ≡ 0 → ⊥
+not_accepted r z = clash (eqb (number r) 0) (eq-eqb (number r) 0 z) (number-not_0 r)
+
+-- A reply is known by its number and its state.
+pub told_alike : (a b : Result State Refused) → told a ≡ told b → a ≡ b
+told_alike (Ok s) (Ok t) e = ap {B = Result State Refused} (λ (x : Started). Ok x.state) e
+told_alike (Ok s) (Err r) e = absurd (not_accepted r.refusal (sym (ap (λ (x : Started). x.answer) e)))
+told_alike (Err r) (Ok s) e = absurd (not_accepted r.refusal (ap (λ (x : Started). x.answer) e))
+told_alike (Err r) (Err q) e =
+    let f : r.refusal ≡ q.refusal = number-one_to_one r.refusal q.refusal (ap (λ (x : Started). x.answer) e) in
+    ap₂ {C = Result State Refused} (λ (x : Refusal) (y : State). Err (record { refusal = x; state = y })) f (ap (λ (x : Started). x.state) e)
 
 -- ---- along the code
 

@@ -9,11 +9,8 @@ fresh-table-requires-clause-span_nonzero c = search view_boxed
 pub fresh-table-requires-clause-n_bound : goal.fresh-table-requires-clause-n_bound
 fresh-table-requires-clause-n_bound c = search view-le
 
-pub first_ranks-requires-clause-n_bound : goal.first_ranks-requires-clause-n_bound
-first_ranks-requires-clause-n_bound c = search view-le
-
-pub first_rows-requires-clause-n_bound : goal.first_rows-requires-clause-n_bound
-first_rows-requires-clause-n_bound c = search view-le
+pub first_seats-requires-clause-n_bound : goal.first_seats-requires-clause-n_bound
+first_seats-requires-clause-n_bound c = search view-le
 
 pub returns : goal.returns
 returns c = search fresh-state

@@ -1,22 +1,23 @@
 -- `start` meets its contract: a refused start is empty, an accepted one has n fresh ranks and rows. Assumes nothing.
-use Rattle.calls.proofs.Laws.Shapes.{shape-zero, shape_fits, form_fits, box_fits}
+use mathlib.Core.Path.{refl, sym}
+use Rattle.calls.proofs.Laws.Shapes.{shape_fits, form_fits, box_fits}
 use Rattle.state.proofs.Laws.Starting.{start-refused, start-accepted}
 use Rattle.state.proofs.start.Goals as goal
 
-pub returns-then-answer-ne0 : goal.returns-then-answer-ne0
-returns-then-answer-ne0 c = search start-refused
+pub returns-in-Err : goal.returns-in-Err
+returns-in-Err c = start-refused _ _ _ _ _ _ c.in-Err.ensures c.empty_state.ensures
 
 pub overflow_cast-n : goal.overflow_cast-n
-overflow_cast-n c = search shape_fits
+overflow_cast-n c = shape_fits _ _ _ c.in_default.ensures
 
 pub overflow_cast-form : goal.overflow_cast-form
-overflow_cast-form c = search form_fits
+overflow_cast-form c = form_fits _ _ _ c.in_default.ensures
 
 pub overflow_cast-span : goal.overflow_cast-span
-overflow_cast-span c = search box_fits
+overflow_cast-span c = box_fits _ _ _ c.in_default.ensures
 
 pub fresh_state-requires : goal.fresh_state-requires
-fresh_state-requires c = search shape-zero
+fresh_state-requires c = sym c.in_default.ensures
 
 pub returns : goal.returns
-returns c = search start-accepted
+returns c = start-accepted _ _ _ _ _ c.in_default.ensures c.fresh_state.ensures

@@ -1,20 +1,20 @@
--- Numbers, fields and letters along their code. Assumes nothing.
-use mathlib.Core.Path.{◌≡◌, sym, ap, subst, ◌∙◌}
+-- Numbers and fields along their code. Assumes nothing.
+use mathlib.Core.Path.{◌≡◌, sym, ap, ◌∙◌}
 use mathlib.Core.Bool.{Bool, true, false, cond}
 use mathlib.Core.List.{List, [], ◌∷◌, ◌++◌}
 use mathlib.Core.Logic.{◌⊎◌, inl, inr}
 use Prim.Native.Nat.{ℕ, zero, suc, ◌+◌, ◌/◌, ◌%◌, ◌^◌, ◌≤◌, ◌<◌}
-use native.Mathlib.Numerals.{add-one}
 use native.Mathlib.Omega.{arith}
 use mir.Syntax.{w32}
 use mir.Val.{Fits}
 use lib.Dec.{ltb}
-use lib.ListN.{length, get_or, take, length-append}
-use lib.Seq.{take-suc, take_all, length-take-le}
+use lib.ListN.{length, length-append}
 use borrow.Author.Tests.{lt-ltb, le-ltb, ltb-true, ltb-false}
 use Rattle.sets.proofs.Laws.Bools.{passes_or_fails}
-use Rattle.text.specs.Text.{Wrote, digits_of, decimal, field}
-use Rattle.text.proofs.Laws.Writing.{wrote_nothing, wrote_then, wrote_kept}
+use Rattle.text.specs.Text.{digits_of, decimal, field}
+use Rattle.text.specs.Pages.{Puts, HasRoom}
+use Rattle.text.specs.declared.Page.{Page}
+use Rattle.text.proofs.Laws.Writing.{puts_then, room_after}
 
 -- ---- digits
 
@@ -53,7 +53,7 @@ pub decimal-one : (x : ℕ) → x < 10 → decimal x ≡ (48 + x) ∷ []
 unfolding decimal digits_of
 decimal-one x l = rw (lt-ltb x 10 l)
 
-decimal_more : (x : ℕ) → x < 2 ^ 32 → 10 ≤ x → decimal x ≡ decimal (x / 10) ++ ((48 + x % 10) ∷ [])
+pub decimal_more : (x : ℕ) → x < 2 ^ 32 → 10 ≤ x → decimal x ≡ decimal (x / 10) ++ ((48 + x % 10) ∷ [])
 unfolding decimal
 decimal_more x w l = digits_last 9 x l ∙ ap (λ (d : List ℕ). d ++ ((48 + x % 10) ∷ [])) (sym (digits_more 8 (x / 10) (omega arith)))
 
@@ -68,46 +68,18 @@ decimal_short p m = go (passes_or_fails (ltb p 10))
     go (inr t) = rw (t, decimal-two p (ltb-false p 10 t) m)
 
 -- the code's two ways: one digit, or a tenth's digits and one more
-pub number-one : (text : List ℕ) (at x : ℕ) (t : List ℕ) (a : ℕ) → x < 10 → Wrote text at ((48 + x) ∷ []) t a → Wrote text at (decimal x) t a
-number-one text at x t a l w = subst (λ (d : List ℕ). Wrote text at d t a) (sym (decimal-one x l)) w
+pub number_one : {p q : Page} (x : ℕ) → x < 10 → Puts p ((48 + x % 10) ∷ []) q → Puts p (decimal x) q
+number_one {p} {q} x l h = let z : x % 10 ≡ x = omega arith in rw (decimal-one x l) (rw z at h)
 
-pub number_more : (text : List ℕ) (at x : ℕ) (t : List ℕ) (a : ℕ) (u : List ℕ) (b : ℕ) → Fits w32 x → 10 ≤ x → Wrote text at (decimal (x / 10)) t a → Wrote t a ((48 + x % 10) ∷ []) u b → Wrote text at (decimal x) u b
-number_more text at x t a u b f l v w = subst (λ (d : List ℕ). Wrote text at d u b) (sym (decimal_more x f.fits l)) (wrote_then v w)
+pub number_more : {p q r : Page} (x : ℕ) → Fits w32 x → 10 ≤ x → Puts p (decimal (x / 10)) q → Puts q ((48 + x % 10) ∷ []) r → Puts p (decimal x) r
+number_more x f l h k = rw (decimal_more x f.fits l) (puts_then h k)
 
-pub number-room : (text : List ℕ) (at x : ℕ) (t : List ℕ) (a : ℕ) → Fits w32 x → at + 10 ≤ length text → Wrote text at (decimal (x / 10)) t a → a < length t
+pub number_room : {p q : Page} (x : ℕ) → Fits w32 x → Puts p (decimal (x / 10)) q → HasRoom p 10 → HasRoom q 1
 unfolding decimal
-number-room text at x t a f r w =
-    let e : length (digits_of 10 (x / 10)) ≡ length (digits_of 9 (x / 10)) = ap length (digits_more 8 (x / 10) (omega (arith, f.fits))) in
-    omega (arith, w.next_is, wrote_kept w, length_digits 9 (x / 10))
+number_room x f h r =
+    let d : length (digits_of 10 (x / 10)) ≡ length (digits_of 9 (x / 10)) = ap length (digits_more 8 (x / 10) (omega (arith, f.fits))) in
+    room_after 9 1 h (omega (arith, length_digits 9 (x / 10))) r
 
 pub length-field : (x : ℕ) → length (field x) ≤ 11
 unfolding field
 length-field x = omega (arith, length-decimal x)
-
-pub field_of : {text : List ℕ} {at : ℕ} {t : List ℕ} {a x y : ℕ} → x ≡ y → Wrote text at (field x) t a → Wrote text at (field y) t a
-field_of {text} {at} {t} {a} e w = subst (λ (z : ℕ). Wrote text at (field z) t a) e w
-
--- ---- a word's letters: before letter i the first i stand
-
-pub record Spelling (letters text₀ : List ℕ) (at : ℕ) (text : List ℕ) (next i : ℕ) : Type 0 where
-  pub within : i ≤ length letters
-  pub room : at + length letters ≤ length text₀
-  pub wrote : Wrote text₀ at (take i letters) text next
-
-pub spelling_start : (letters text : List ℕ) (at : ℕ) → at + length letters ≤ length text → Spelling letters text at text at 0
-spelling_start letters text at r = record { within = omega arith; room = r; wrote = wrote_nothing text at }
-
-pub spelling_byte : (letters text₀ : List ℕ) (at : ℕ) (text : List ℕ) (next i : ℕ) → Spelling letters text₀ at text next i → i < length letters → next < length text
-spelling_byte letters text₀ at text next i p l = omega (arith, p.room, p.wrote.next_is, wrote_kept p.wrote, length-take-le i letters p.within)
-
-pub spelling_step : (letters text₀ : List ℕ) (at : ℕ) (text : List ℕ) (next i : ℕ) (t : List ℕ) (a : ℕ) → Spelling letters text₀ at text next i → i < length letters → Wrote text next (get_or letters i 0 ∷ []) t a
-    → Spelling letters text₀ at t a (i + 1)
-spelling_step letters text₀ at text next i t a p l w = record {
-  within = omega arith;
-  room = p.room;
-  wrote = subst (λ (x : List ℕ). Wrote text₀ at x t a) (sym (ap (λ (k : ℕ). take k letters) (add-one i) ∙ take-suc letters i 0 l)) (wrote_then p.wrote w);
-}
-
-pub spelling_end : (letters text₀ : List ℕ) (at : ℕ) (text : List ℕ) (next i : ℕ) → Spelling letters text₀ at text next i → length letters ≤ i → Wrote text₀ at letters text next
-spelling_end letters text₀ at text next i p l =
-    subst (λ (x : List ℕ). Wrote text₀ at x text next) (take_all i letters l) p.wrote

@@ -1,21 +1,17 @@
 -- Lines one after the other: along a loop that writes them, from the first on, and how long they are. Assumes nothing.
-use mathlib.Core.Path.{◌≡◌, refl, sym, ap, subst, ◌∙◌}
+use mathlib.Core.Path.{◌≡◌, refl, sym, ap, ◌∙◌}
 use mathlib.Core.List.{List, [], ◌++◌, append-nil, append_assoc}
 use Prim.Native.Nat.{ℕ, zero, suc, ◌+◌, ◌*◌, ◌≤◌, ◌<◌}
 use native.Mathlib.Nat.{suc-mul, mul-le-mul_right}
 use native.Mathlib.Numerals.{add-one}
 use native.Mathlib.Omega.{arith}
 use lib.ListN.{length, length-append}
-use Rattle.text.specs.Text.{Wrote, lines}
-use Rattle.text.proofs.Laws.Writing.{wrote_nothing, wrote_then, wrote_kept}
+use Rattle.text.specs.Text.{lines}
+use Rattle.text.specs.Pages.{Puts, HasRoom, Lines}
+use Rattle.text.specs.declared.Page.{Page}
+use Rattle.text.proofs.Laws.Writing.{puts_then, puts_kept}
 
--- ---- lines of at most m bytes: before line k the first k stand
-
-pub record Lining (f : ℕ → List ℕ) (m total : ℕ) (text₀ : List ℕ) (at : ℕ) (text : List ℕ) (next k : ℕ) : Type 0 where
-  pub within : k ≤ total
-  pub short : (i : ℕ) → length (f i) ≤ m
-  pub room : at + total * m ≤ length text₀
-  pub wrote : Wrote text₀ at (lines f k) text next
+-- ---- lines of at most m bytes
 
 pub length-lines : (f : ℕ → List ℕ) (m k : ℕ) → ((i : ℕ) → length (f i) ≤ m) → length (lines f k) ≤ k * m
 unfolding lines
@@ -26,25 +22,12 @@ lines_more : (f : ℕ → List ℕ) (k : ℕ) → lines f k ++ f k ≡ lines f (
 unfolding lines
 lines_more f k = ap (lines f) (sym (add-one k))
 
-pub lining_start : (f : ℕ → List ℕ) (m total : ℕ) (text : List ℕ) (at : ℕ) → ((i : ℕ) → length (f i) ≤ m) → at + total * m ≤ length text → Lining f m total text at text at 0
-unfolding lines
-lining_start f m total text at h r = record { within = omega arith; short = h; room = r; wrote = wrote_nothing text at }
+-- before line k of n the first k stand
+pub lining_room : (o : Lines) {p q : Page} (n k : ℕ) → Puts p (lines o.line k) q → k < n → HasRoom p (n * o.most) → HasRoom q o.most
+lining_room o n k h l r = omega (arith, h.at_is, puts_kept h, length-lines o.line o.most k o.short, suc-mul k o.most, mul-le-mul_right o.most l)
 
-pub lining_room : (f : ℕ → List ℕ) (m total : ℕ) (text₀ : List ℕ) (at : ℕ) (text : List ℕ) (next k : ℕ) → Lining f m total text₀ at text next k → k < total → next + m ≤ length text
-lining_room f m total text₀ at text next k p l =
-    omega (arith, p.room, p.wrote.next_is, wrote_kept p.wrote, length-lines f m k p.short, suc-mul k m, mul-le-mul_right m l)
-
-pub lining_step : (f : ℕ → List ℕ) (m total : ℕ) (text₀ : List ℕ) (at : ℕ) (text : List ℕ) (next k : ℕ) (t : List ℕ) (a : ℕ) → Lining f m total text₀ at text next k → k < total → Wrote text next (f k) t a
-    → Lining f m total text₀ at t a (k + 1)
-lining_step f m total text₀ at text next k t a p l w = record {
-  within = omega arith;
-  short = p.short;
-  room = p.room;
-  wrote = subst (λ (x : List ℕ). Wrote text₀ at x t a) (lines_more f k) (wrote_then p.wrote w);
-}
-
-pub lining_end : (f : ℕ → List ℕ) (m total : ℕ) (text₀ : List ℕ) (at : ℕ) (text : List ℕ) (next k : ℕ) → Lining f m total text₀ at text next k → total ≤ k → Wrote text₀ at (lines f total) text next
-lining_end f m total text₀ at text next k p l = let e : k ≡ total = omega (arith, p.within) in subst (λ (x : ℕ). Wrote text₀ at (lines f x) text next) e p.wrote
+pub lining_step : (o : Lines) {p q r : Page} (k : ℕ) → Puts p (lines o.line k) q → Puts q (o.line k) r → Puts p (lines o.line (k + 1)) r
+lining_step o k h i = rw (sym (lines_more o.line k)) (puts_then h i)
 
 -- lines that are alike one by one are alike together
 pub lines_same : (f g : ℕ → List ℕ) (k : ℕ) → ((i : ℕ) → i < k → f i ≡ g i) → lines f k ≡ lines g k

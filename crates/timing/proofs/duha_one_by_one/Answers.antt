@@ -1,21 +1,19 @@
 -- `duha_one_by_one` meets its contract: refused as a batch is, or the events from the started state on. Assumes nothing.
-use Rattle.timing.proofs.Laws.Stepping.{told-uneven, told_short, told_taken}
+use mathlib.Core.Path.{◌∙◌}
+use Rattle.timing.proofs.Laws.Stepping.{events_room, told_refused, told_taken}
 use Rattle.timing.proofs.duha_one_by_one.Goals as goal
 
-pub returns-then-events-ne0-clause-value : goal.returns-then-events-ne0-clause-value
-returns-then-events-ne0-clause-value c = (told-uneven _ _ _ c.if-events-ne0.true).0
+pub step_all-requires : goal.step_all-requires
+step_all-requires c = events_room _ _ c.in-Ok.ensures.value
 
-pub returns-then-events-ne0-clause-out_after : goal.returns-then-events-ne0-clause-out_after
-returns-then-events-ne0-clause-out_after c = (told-uneven _ _ _ c.if-events-ne0.true).1
+pub returns-in-Ok-clause-value : goal.returns-in-Ok-clause-value
+returns-in-Ok-clause-value c = (told_taken _ _ _ _ _ c.in-Ok.ensures.value c.in-Ok.ensures.state c.step_all.ensures).0
 
-pub returns-then-out-total-clause-value : goal.returns-then-out-total-clause-value
-returns-then-out-total-clause-value c = (told_short _ _ _ c.if-events-ne0.false c.if-out-total.true).0
+pub returns-in-Ok-clause-out_after : goal.returns-in-Ok-clause-out_after
+returns-in-Ok-clause-out_after c = (told_taken _ _ _ _ _ c.in-Ok.ensures.value c.in-Ok.ensures.state c.step_all.ensures).1
 
-pub returns-then-out-total-clause-out_after : goal.returns-then-out-total-clause-out_after
-returns-then-out-total-clause-out_after c = (told_short _ _ _ c.if-events-ne0.false c.if-out-total.true).1
+pub returns-in-Err-clause-value : goal.returns-in-Err-clause-value
+returns-in-Err-clause-value c = c.number.ensures ∙ (told_refused _ _ _ _ c.in-Err.ensures.value).0
 
-pub returns-clause-value : goal.returns-clause-value
-returns-clause-value c = (told_taken _ _ _ _ _ c.if-events-ne0.false c.if-out-total.false c.start-started.ensures c.step_all.ensures).0
-
-pub returns-clause-out_after : goal.returns-clause-out_after
-returns-clause-out_after c = (told_taken _ _ _ _ _ c.if-events-ne0.false c.if-out-total.false c.start-started.ensures c.step_all.ensures).1
+pub returns-in-Err-clause-out_after : goal.returns-in-Err-clause-out_after
+returns-in-Err-clause-out_after c = (told_refused _ _ _ _ c.in-Err.ensures.value).1

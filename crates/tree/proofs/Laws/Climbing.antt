@@ -11,9 +11,11 @@ use lib.Dec.{eqb, ltb}
 use lib.ListN.{length, get_or, drop, length-drop}
 use lib.Seq.{get_or-drop, drop-drop}
 use borrow.Author.Tests.{eq-eqb, ne_eqb, lt-ltb, ltb-true}
-use Rattle.sets.specs.Sets.{none, has, count, smallest}
+use Rattle.std.proofs.Common.{Some}
+use Rattle.sets.specs.Sets.{none, found, has, count, smallest}
 use Rattle.sets.proofs.Laws.Bools.{clash, fails, eq_or_ne, lt-or-le, cond_true, cond_false}
 use Rattle.sets.proofs.Laws.Searches.{count_fewer, count_wide, count-le, count_add, Smallest, LeastOf, least, smallest-cases}
+use Rattle.sets.proofs.Laws.Found.{is_found}
 use Rattle.tree.specs.Tree.{ancestor_count, flat, parent, upwards, path, links, reached, IsRoot, digits}
 use Rattle.tree.specs.Relations.{Above, Ancestry}
 use Rattle.tree.proofs.Kin.{Rooted}
@@ -175,13 +177,13 @@ pub record Climbing (anc : ℕ → ℕ) (marks p k at : ℕ) : Type 0 where
 pub climbing-start : (anc : ℕ → ℕ) (marks p : ℕ) → Climbing anc marks p 0 p
 climbing-start anc marks p = record { within = le_refl p; left = refl }
 
-pub climbing-step : (anc : ℕ → ℕ) (marks p k at up : ℕ) → Climbing anc marks p k at → up ≡ parent anc marks at → (up ≡ none → ⊥) → Climbing anc marks p (k + 1) up
-climbing-step anc marks p k at up c e h =
-    let n : parent anc marks at ≡ none → ⊥ = λ x. h (e ∙ x) in
-    let l : parent anc marks at < at = parent-lt anc marks at n in
+pub climbing-step : (anc : ℕ → ℕ) (marks p k at up : ℕ) → Climbing anc marks p k at → Some up ≡ found (parent anc marks at) → Climbing anc marks p (k + 1) up
+climbing-step anc marks p k at up c e =
+    let u = is_found (parent anc marks at) up e in
+    let l : parent anc marks at < at = parent-lt anc marks at u.1 in
     record {
-      within = omega (arith, c.within);
-      left = sym (drop-drop 1 k (p ∷ path anc marks p)) ∙ ap (drop 1) c.left ∙ path_link anc marks at n ∙ ap (λ (x : ℕ). x ∷ path anc marks x) (sym e);
+      within = omega (arith, c.within, u.0);
+      left = sym (drop-drop 1 k (p ∷ path anc marks p)) ∙ ap (drop 1) c.left ∙ path_link anc marks at u.1 ∙ ap (λ (x : ℕ). x ∷ path anc marks x) (sym u.0);
     }
 
 -- the rank reached, and the links that are left above it
@@ -196,5 +198,5 @@ climbing-links anc marks p k at c =
     let e : length (p ∷ path anc marks p) - k ≡ suc (length (path anc marks at)) = sym (length-drop k (p ∷ path anc marks p)) ∙ ap length c.left in
     omega arith
 
-pub climbing_less : (anc : ℕ → ℕ) (marks at up : ℕ) → up ≡ parent anc marks at → (up ≡ none → ⊥) → up < at
-climbing_less anc marks at up e h = subst (λ (r : ℕ). r < at) (sym e) (parent-lt anc marks at (λ x. h (e ∙ x)))
+pub climbing_less : (anc : ℕ → ℕ) (marks at up : ℕ) → Some up ≡ found (parent anc marks at) → up < at
+climbing_less anc marks at up e = let u = is_found (parent anc marks at) up e in subst (λ (r : ℕ). r < at) (sym u.0) (parent-lt anc marks at u.1)

@@ -1,21 +1,24 @@
 -- How a parent is found, by any `above` that answers a smaller rank: among the ancestors up to the first that is unmarked, or else the lowest
 -- unmarked rank. Assumes nothing.
-use mathlib.Core.Path.{◌≡◌, sym, ap, subst, ◌∙◌}
+use mathlib.Core.Path.{◌≡◌, refl, sym, ap, subst, ◌∙◌}
 use mathlib.Core.Bool.{Bool, true, false, cond, not}
 use mathlib.Core.Logic.{◌⊎◌, inl, inr, ⊎_elim}
 use Prim.Native.Nat.{ℕ, ◌≤◌, ◌<◌}
 use native.Mathlib.Omega.{arith}
 use lib.Dec.{eqb}
 use borrow.Author.Tests.{ltb-true, eq-eqb, not-true, not-false, ne_eqb, eqb-true}
-use Rattle.sets.specs.Sets.{none, has, minus, below, smallest, add, largest}
+use Rattle.std.proofs.Common.{◌^◌, None, Some}
+use Rattle.std.specs.Option.{unwrap_or}
+use Rattle.sets.specs.Sets.{none, found, has, minus, below, smallest, add, largest}
 use Rattle.sets.proofs.Laws.Bools.{clash, passes_or_fails, lt-or-le, not_i, not_o, cond_true, cond_false, fails, or_cases}
 use Rattle.sets.proofs.Laws.Members.{minus_l, minus_r, minus-not, has-below-lt, has-below, none_in, has-zero, has-add, has-add-same, minus_i}
 use Rattle.sets.proofs.Laws.Searches.{LeastOf, least, smallest-cases, largest_is}
+use Rattle.sets.proofs.Laws.Found.{found-none, found-some, first_found, none_first, last_or}
 use Rattle.tree.specs.Tree.{ancestors, parent}
 use Rattle.tree.specs.Relations.{Above}
 use Rattle.tree.proofs.Kin.{Smaller, IsTree}
 use Rattle.tree.proofs.Laws.Ancestors.{above_cases, next-above, ancestors_are_a_tree}
-use Rattle.tree.proofs.Laws.Parents.{Marked, Free, Parent, nearest, lowest, nobody, parent_is}
+use Rattle.tree.proofs.Laws.Parents.{Marked, Free, Parent, nearest, lowest, nobody, parent_is, no_parent, has-parent}
 
 -- The loop of `parent_of`, at a rank: each ancestor of p above that rank is marked, and while the lowest unmarked rank is below it, it is an
 -- ancestor of p.
@@ -40,6 +43,14 @@ low-cases marks p m under unmarked low l u v e = go low (subst (λ (x : ℕ). Le
         least (record { within = b; passes = not_i (has marks r) (minus_r (below p) marks r t); first = λ k c. marked k (omega arith) (s.first k c) })
     go r (LeastOf.empty f) = LeastOf.empty (λ k b. marked k b (f k (omega arith)))
 
+-- the rank next above p is one, where the lowest unmarked rank is below it
+pub low_within : (marks p low at : ℕ) → p < 64 → low ≡ smallest (has (minus (below p) marks)) 64 none → low < at → at ≤ none → (0 < p → at < p) → at < 64
+low_within marks p low at l e h n s = go low (low-cases marks p 64 (below p) (minus (below p) marks) low (omega arith) refl refl e) h
+  where
+    go : (r : ℕ) → LeastOf (λ k. not (has marks k)) p none r → r < at → at < 64
+    go r (least x) h = let b : at < p = s (omega (arith, x.within)) in omega arith
+    go r (LeastOf.empty x) h = absurd (omega arith)
+
 module _ (above : ℕ → ℕ) (smaller : Smaller above) where
   abbrev anc : ℕ → ℕ
   anc = ancestors above
@@ -63,16 +74,10 @@ module _ (above : ℕ → ℕ) (smaller : Smaller above) where
       ahead r (least x) c = subst (λ (a : ℕ). Above anc p a) (sym e) (next-above above smaller p (omega (arith, x.within)))
       ahead r (LeastOf.empty x) c = absurd (omega arith)
 
-  pub rising_less : (low at up : ℕ) → low < at → up ≡ above at → up < at
-  rising_less low at up h u = omega (arith, smaller at (omega arith))
-
-  pub rising_within : (marks p low at m : ℕ) → Rising above marks p low at → low < at → p < m → at < m
-  rising_within marks p low at m g h l = omega (arith, tree.ancestry.smaller p at (g.ahead h))
-
   -- a marked ancestor is passed
-  pub rising_step : (marks p low at up : ℕ) (t : Bool) → Rising above marks p low at → low < at → t ≡ has marks at → not t ≡ false → up ≡ above at → Rising above marks p low up
+  pub rising_step : (marks p low at up : ℕ) (t : Bool) → Rising above marks p low at → low < at → t ≡ has marks at → t ≡ true → up ≡ above at → Rising above marks p low up
   rising_step marks p low at up t g h m n u = record {
-    passed = λ k a c. ⊎_elim (λ (b : at < k). g.passed k a b) (λ (b : k ≤ at). subst (λ (x : ℕ). Marked marks x) (reached k a c b) (sym m ∙ not-false t n)) (lt-or-le at k);
+    passed = λ k a c. ⊎_elim (λ (b : at < k). g.passed k a b) (λ (b : k ≤ at). subst (λ (x : ℕ). Marked marks x) (reached k a c b) (sym m ∙ n)) (lt-or-le at k);
     ahead = λ c. subst (λ (a : ℕ). Above anc p a) (sym u) (tree.ancestry.through p at (above at) (g.ahead h) (next-above above smaller at (omega arith)));
   }
     where
@@ -80,8 +85,8 @@ module _ (above : ℕ → ℕ) (smaller : Smaller above) where
       reached k a c b = ⊎_elim (λ (d : k < at). absurd (omega (arith, none_nearer at k (tree.chained p k at a (g.ahead h) d)))) (λ (d : at ≤ k). omega arith) (lt-or-le k at)
 
   -- an unmarked one is the nearest
-  pub rising_found : (marks p low at : ℕ) (t : Bool) → Rising above marks p low at → low < at → t ≡ has marks at → not t ≡ true → at ≡ parent anc marks p
-  rising_found marks p low at t g h m n = sym (parent_is anc marks p at (nearest (tree.ancestry.smaller p at (g.ahead h)) (g.ahead h) (sym m ∙ not-true t n) (λ k a b u. g.passed k u a)))
+  pub rising_found : (marks p low at : ℕ) (t : Bool) → Rising above marks p low at → low < at → t ≡ has marks at → t ≡ false → at ≡ parent anc marks p
+  rising_found marks p low at t g h m n = sym (parent_is anc marks p at (nearest (tree.ancestry.smaller p at (g.ahead h)) (g.ahead h) (sym m ∙ n) (λ k a b u. g.passed k u a)))
 
   -- down to the lowest unmarked rank every ancestor is marked: that rank is the parent, an ancestor or not
   pub rising_end : (marks p m under unmarked low at : ℕ) → Rising above marks p low at → at ≤ low → p < m → under ≡ below p → unmarked ≡ minus under marks → low ≡ smallest (has unmarked) m none → low ≡ parent anc marks p
@@ -115,12 +120,12 @@ pub record Passed (above : ℕ → ℕ) (marks p low at found : ℕ) : Type 0 wh
 pub passed_start : (above : ℕ → ℕ) (marks p low at : ℕ) → Rising above marks p low at → Passed above marks p low at 0
 passed_start above marks p low at g = record { rising = g; marked = λ k t. absurd (clash (has 0 k) t (has-zero k)) }
 
-pub passed_step : (above : ℕ → ℕ) (marks p low at up found more : ℕ) (t : Bool) → Passed above marks p low at found → Rising above marks p low up → more ≡ add found at → t ≡ has marks at → not t ≡ false → Passed above marks p low up more
+pub passed_step : (above : ℕ → ℕ) (marks p low at up found more : ℕ) (t : Bool) → Passed above marks p low at found → Rising above marks p low up → more ≡ add found at → t ≡ has marks at → t ≡ true → Passed above marks p low up more
 passed_step above marks p low at up found more t g r e m n = record { rising = r; marked = λ k u. go k (or_cases (has found k) (eqb k at) (sym (has-add found at k) ∙ ap (λ (x : ℕ). has x k) (sym e) ∙ u)) }
   where
     go : (k : ℕ) → (has found k ≡ true) ⊎ (eqb k at ≡ true) → Marked marks k
     go k (inl u) = g.marked k u
-    go k (inr u) = subst (λ (x : ℕ). Marked marks x) (sym (eqb-true k at u)) (sym m ∙ not-false t n)
+    go k (inr u) = subst (λ (x : ℕ). Marked marks x) (sym (eqb-true k at u)) (sym m ∙ n)
 
 -- none is unmarked
 pub none_left : (marks found : ℕ) → ((k : ℕ) → has found k ≡ true → Marked marks k) → minus found marks ≡ 0
@@ -130,7 +135,7 @@ pub passed_end : (above : ℕ → ℕ) (marks p low at found r : ℕ) → Passed
 passed_end above marks p low at found r g e = cond_true (eqb (minus found marks) 0) low (largest (has (minus found marks)) 64 none) (eq-eqb (minus found marks) 0 (none_left marks found g.marked)) ∙ e
 
 -- the one unmarked is the last that was found
-pub passed_found : (above : ℕ → ℕ) (marks p low at found more r : ℕ) (t : Bool) → at < 64 → Passed above marks p low at found → more ≡ add found at → t ≡ has marks at → not t ≡ true → at ≡ r
+pub passed_found : (above : ℕ → ℕ) (marks p low at found more r : ℕ) (t : Bool) → at < 64 → Passed above marks p low at found → more ≡ add found at → t ≡ has marks at → t ≡ false → at ≡ r
     → cond (eqb (minus more marks) 0) low (largest (has (minus more marks)) 64 none) ≡ r
 passed_found above marks p low at found more r t l g e m n q =
     cond_false (eqb (minus more marks) 0) low (largest (has (minus more marks)) 64 none) (ne_eqb (minus more marks) 0 (λ z. clash (has 0 at) (ap (λ (x : ℕ). has x at) (sym z) ∙ here) (has-zero at)))
@@ -138,7 +143,7 @@ passed_found above marks p low at found more r t l g e m n q =
     ∙ q
   where
     free : Free marks at
-    free = sym m ∙ not-true t n
+    free = sym m ∙ n
 
     here : has (minus more marks) at ≡ true
     here = minus_i more marks at (ap (λ (x : ℕ). has x at) e ∙ has-add-same found at) free
@@ -153,8 +158,22 @@ passed_found above marks p low at found more r t l g e m n q =
 pub low_is : (marks p under unmarked low : ℕ) → under ≡ below p → unmarked ≡ minus under marks → low ≡ smallest (has unmarked) 64 none → low ≡ smallest (has (minus (below p) marks)) 64 none
 low_is marks p under unmarked low u v e = e ∙ ap (λ (x : ℕ). smallest (has x) 64 none) (v ∙ ap (λ (x : ℕ). minus x marks) u)
 
-pub parent_near : (line near marks low r q : ℕ) → near ≡ minus line marks → (near ≡ 0 → ⊥) → r ≡ largest (has near) 64 none → cond (eqb (minus line marks) 0) low (largest (has (minus line marks)) 64 none) ≡ q → r ≡ q
-parent_near line near marks low r q e h f c = f ∙ ap (λ (x : ℕ). largest (has x) 64 none) e ∙ sym (cond_false (eqb (minus line marks) 0) low (largest (has (minus line marks)) 64 none) (ne_eqb (minus line marks) 0 (λ z. h (e ∙ z)))) ∙ c
+-- nobody below p is unmarked
+pub no_parent_found : (anc : ℕ → ℕ) (marks p under unmarked : ℕ) → p ≤ 64 → unmarked < 2 ^ 64 → under ≡ below p → unmarked ≡ minus under marks → None ≡ found (smallest (has unmarked) 64 none) → None ≡ found (parent anc marks p)
+no_parent_found anc marks p under unmarked l h u v e = found-none (parent anc marks p) (no_parent anc marks p (λ k b. minus-not (below p) marks k (here k) (has-below-lt p k b)))
+  where
+    here : (k : ℕ) → has (minus (below p) marks) k ≡ false
+    here k = ap (λ (x : ℕ). has x k) (sym (v ∙ ap (λ (x : ℕ). minus x marks) u) ∙ none_first unmarked 64 h (omega arith) e) ∙ has-zero k
 
-pub parent-low : (line near marks low q : ℕ) → near ≡ minus line marks → near ≡ 0 → cond (eqb (minus line marks) 0) low (largest (has (minus line marks)) 64 none) ≡ q → low ≡ q
-parent-low line near marks low q e h c = sym (cond_true (eqb (minus line marks) 0) low (largest (has (minus line marks)) 64 none) (eq-eqb (minus line marks) 0 (sym e ∙ h))) ∙ c
+-- or somebody is, and p has a parent
+pub parent_found : (anc : ℕ → ℕ) (marks p under unmarked low line near r : ℕ) → p ≤ 64 → unmarked < 2 ^ 64 → near < 2 ^ 64 → under ≡ below p → unmarked ≡ minus under marks → Some low ≡ found (smallest (has unmarked) 64 none)
+    → near ≡ minus line marks → r ≡ unwrap_or (found (largest (has near) 64 none)) low → cond (eqb (minus line marks) 0) low (largest (has (minus line marks)) 64 none) ≡ parent anc marks p → Some r ≡ found (parent anc marks p)
+parent_found anc marks p under unmarked low line near r l h g u v e i j q =
+    found-some (parent anc marks p) r is
+    (λ z. has-parent anc marks p low (omega arith) (ltb-true low p (sym (has-below p low) ∙ minus_l (below p) marks low here)) (minus_r (below p) marks low here) (sym is ∙ z))
+  where
+    here : has (minus (below p) marks) low ≡ true
+    here = ap (λ (x : ℕ). has x low) (sym (v ∙ ap (λ (x : ℕ). minus x marks) u)) ∙ (first_found unmarked 64 low h (omega arith) e).passes
+
+    is : r ≡ parent anc marks p
+    is = j ∙ last_or near 64 low g (omega arith) ∙ ap (λ (x : ℕ). cond (eqb x 0) low (largest (has x) 64 none)) i ∙ q

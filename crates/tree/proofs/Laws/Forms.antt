@@ -1,16 +1,14 @@
 -- Each form of tree: whatever the box size, the rank next above is smaller, so it is a tree; and with form 0 it is the flat one. Assumes nothing.
 use mathlib.Core.Path.{◌≡◌, refl, sym, ap, subst, ◌∙◌}
-use mathlib.Core.Bool.{Bool, true, false, cond, not, ◌&&◌}
+use mathlib.Core.Bool.{Bool, true, false, cond}
 use mathlib.Core.Logic.{⊎_elim}
-use Prim.Native.Nat.{ℕ, ◌+◌, ◌-◌, ◌*◌, ◌/◌, ◌%◌, ◌^◌, ◌≤◌, ◌<◌}
-use native.Mathlib.Nat.{le_trans, lt_of_le_of_lt, div-le_self, mod-le, mul-le-mul_right, div-mul-le_self, mod-eq-sub-div-mul, mod-zero, zero-mul, mul-lt-mul_of_pos_right}
+use Prim.Native.Nat.{ℕ, ◌+◌, ◌-◌, ◌*◌, ◌/◌, ◌%◌, ◌≤◌, ◌<◌}
+use native.Mathlib.Nat.{div-mul-le_self, mod-eq-sub-div-mul, mod-zero, zero-mul, mul-lt-mul_of_pos_right}
 use native.Mathlib.Omega.{arith}
-use mir.Syntax.{w8}
-use mir.Val.{Fits}
 use lib.Dec.{eqb}
-use borrow.Author.Tests.{eq-eqb, ne_eqb, not-true}
-use Rattle.sets.proofs.Laws.Bools.{clash, eq_or_ne, and_i, and_l, and_r, not_i}
-use Rattle.tree.specs.Tree.{half, flat, parent}
+use borrow.Author.Tests.{eq-eqb, ne_eqb}
+use Rattle.sets.proofs.Laws.Bools.{eq_or_ne}
+use Rattle.tree.specs.Tree.{ancestors, half, flat, parent}
 use Rattle.tree.specs.Relations.{Ancestry, Chained}
 use Rattle.tree.specs.Forms.{head_of, place_of, head_above, in_star, in_nest, above_in, tree_of, flat_form, star_form, nested_form}
 use Rattle.tree.proofs.Kin.{Rooted, Smaller, IsTree}
@@ -110,28 +108,15 @@ pub nest_other : (s p : ℕ) → (p % s ≡ 0 → ⊥) → p - p % s + p % s / 2
 unfolding in_nest place_of head_of
 nest_other s p d = ap (λ (x : ℕ). x + p % s / 2) (less_place s p) ∙ rw (ne_eqb (p % s) 0 d)
 
-pub form_star : (form s p r : ℕ) → form ≡ 1 → r ≡ in_star s p → r ≡ above_in form s p
-unfolding above_in
-form_star form s p r e f = f ∙ rw (eq-eqb form 1 e)
+-- the ancestors are those of the form
+pub near_star : (form s marks p x : ℕ) → form ≡ 1 → x ≡ parent (ancestors (in_star s)) marks p → x ≡ parent (tree_of form s) marks p
+unfolding tree_of above_in
+near_star form s marks p x e f = f ∙ rw (eq-eqb form 1 e)
 
-pub form_nest : (form s p r : ℕ) → ((form ≡ 1 → ⊥) → form ≡ 2) → (form ≡ 1 → ⊥) → r ≡ in_nest s p → r ≡ above_in form s p
-unfolding above_in
-form_nest form s p r e d f = f ∙ rw (ne_eqb form 1 d, eq-eqb form 2 (e d))
+pub near_nest : (form s marks p x : ℕ) → form ≡ 2 → x ≡ parent (ancestors (in_nest s)) marks p → x ≡ parent (tree_of form s) marks p
+unfolding tree_of above_in
+near_nest form s marks p x e f = f ∙ rw e
 
--- a form is the flat one, or has boxes
-pub near_flat : (form s marks p x : ℕ) → not (eqb form 1) && not (eqb form 2) ≡ true → x ≡ parent flat marks p → x ≡ parent (tree_of form s) marks p
-unfolding tree_of above_in flat
-near_flat form s marks p x e f = f ∙ rw (not-true (eqb form 1) (and_l (not (eqb form 1)) (not (eqb form 2)) e), not-true (eqb form 2) (and_r (not (eqb form 1)) (not (eqb form 2)) e))
-
-pub boxed_else : (form : ℕ) → not (eqb form 1) && not (eqb form 2) ≡ false → (form ≡ 1 → ⊥) → form ≡ 2
-boxed_else form e d = ⊎_elim (λ (z : form ≡ 2). z) (λ (n : form ≡ 2 → ⊥). absurd (clash (not (eqb form 1) && not (eqb form 2)) (and_i _ _ (not_i _ (ne_eqb form 1 d)) (not_i _ (ne_eqb form 2 n))) e)) (eq_or_ne form 2)
-
--- what the code computes is no larger than p
-pub head_above_fits : (s p d : ℕ) → Fits w8 p → Fits w8 (p / s / d * s)
-head_above_fits s p d f = record { fits = lt_of_le_of_lt (le_trans (mul-le-mul_right s (div-le_self (p / s) d)) (div-mul-le_self p s)) f.fits }
-
-pub nest_fits : (s p : ℕ) → Fits w8 p → Fits w8 (p - p % s + p % s / 2)
-nest_fits s p f = record { fits = go (p % s) (mod-le p s) f.fits }
-  where
-    go : (m : ℕ) → m ≤ p → p < 2 ^ 8 → p - m + m / 2 < 2 ^ 8
-    go m l h = omega arith
+pub near_flat : (form s marks p x : ℕ) → (form ≡ 1 → ⊥) → (form ≡ 2 → ⊥) → x ≡ parent (ancestors half) marks p → x ≡ parent (tree_of form s) marks p
+unfolding tree_of above_in
+near_flat form s marks p x d e f = f ∙ rw (ne_eqb form 1 d, ne_eqb form 2 e)

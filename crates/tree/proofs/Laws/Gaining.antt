@@ -9,10 +9,10 @@ use native.Mathlib.Omega.{arith}
 use lib.Dec.{eqb}
 use lib.ListN.{get_or}
 use borrow.Author.Tests.{eq-eqb, ne_eqb, eqb-true, not-true}
-use Rattle.sets.specs.Sets.{none, has, only, add, meet, minus, set_of, largest}
+use Rattle.sets.specs.Sets.{none, has, only, add, meet, minus, set_of}
 use Rattle.sets.proofs.Laws.Bools.{clash, eq_or_ne, same_test, and_i, and_l, and_r}
 use Rattle.sets.proofs.Laws.Members.{minus_l, minus_r, minus_i, has_meet, has-only, none_in, ext, set_of_passes, set_of_within, set_of-has}
-use Rattle.sets.proofs.Laws.Searches.{Largest, TopOf, largest-cases}
+use Rattle.sets.proofs.Laws.Searches.{Largest}
 use Rattle.tree.specs.Tree.{parent, moves, sized, moved}
 use Rattle.tree.specs.Calls.{mended}
 use Rattle.tree.specs.Relations.{Ancestry, Chained}
@@ -63,17 +63,6 @@ module _ (anc : ℕ → ℕ) (tree : Ancestry anc) (chain : Chained anc) (n mark
       let i : parent anc (add marks q) c ≡ p = sym (reports_to c (moves_here c h).inside) ∙ e in
       subst (λ (x : ℕ). x < c) i (parent-lt anc (add marks q) c (λ x. omega arith))
 
-  -- the last one who moved
-  last_moves : (last : ℕ) → (w ≡ 0 → ⊥) → last ≡ largest (has w) 64 none → Largest (has w) 64 last
-  last_moves last z e = go (largest (has w) 64 none) (largest-cases (has w) 64 none) e
-    where
-      go : (r : ℕ) → TopOf (has w) 64 none r → last ≡ r → Largest (has w) 64 last
-      go r (TopOf.top x) i = subst (Largest (has w) 64) (sym i) x
-      go r (TopOf.empty x) i = absurd (z (none_in w (λ k h. clash (has w k) h (x k (omega (arith, (moves_here k h).inside))))))
-
-  pub gained_within : (last : ℕ) → (w ≡ 0 → ⊥) → last ≡ largest (has w) 64 none → last < 64
-  gained_within last z e = (last_moves last z e).within
-
   -- who moved and reports to p
   abbrev here : ℕ
   here = set_of (λ c. eqb (get_or t c 0) p) 64
@@ -86,25 +75,22 @@ module _ (anc : ℕ → ℕ) (tree : Ancestry anc) (chain : Chained anc) (n mark
   both_in : (c : ℕ) → has w c ≡ true → get_or t c 0 ≡ p → has (meet w here) c ≡ true
   both_in c h e = has_meet w here c ∙ and_i (has w c) (has here c) h (set_of-has (λ k. eqb (get_or t k 0) p) 64 c (omega (arith, (moves_here c h).inside)) (eq-eqb (get_or t c 0) p e))
 
-  pub gained-nobody : (last : ℕ) → (w ≡ 0 → ⊥) → last ≡ largest (has w) 64 none → (get_or t last 0 ≡ p → ⊥) → 0 ≡ meet w (set_of (λ c. eqb (get_or t c 0) p) 64)
-  gained-nobody last z e d = sym (none_in (meet w here) (λ c h. no_one c (in_both c h).0 (in_both c h).1))
+  pub gained-nobody : (last : ℕ) → Largest (has w) 64 last → (get_or t last 0 ≡ p → ⊥) → 0 ≡ meet w (set_of (λ c. eqb (get_or t c 0) p) 64)
+  gained-nobody last top d = sym (none_in (meet w here) (λ c h. no_one c (in_both c h).0 (in_both c h).1))
     where
-      top : Largest (has w) 64 last
-      top = last_moves last z e
-
       no_one : (c : ℕ) → has w c ≡ true → get_or t c 0 ≡ p → ⊥
       no_one c h i = ⊎_elim
           (λ (x : last ≡ p). clash (has w c) h (top.last c (omega (arith, under c h i)) (omega (arith, (moves_here c h).inside))))
           (λ (x : last ≡ p → ⊥). d (heirs_agree c last h top.passes i x))
           (eq_or_ne last p)
 
-  pub gained-all : (last one r : ℕ) → (w ≡ 0 → ⊥) → last ≡ largest (has w) 64 none → get_or t last 0 ≡ p → one ≡ only p → r ≡ minus w one → r ≡ meet w (set_of (λ c. eqb (get_or t c 0) p) 64)
-  gained-all last one r z e i u v = v ∙ ap (minus w) u ∙ ext (minus w (only p)) (meet w here) (λ c. same_test (has (minus w (only p)) c) (has (meet w here) c) (others c) (not_p c))
+  pub gained-all : (last one r : ℕ) → Largest (has w) 64 last → get_or t last 0 ≡ p → one ≡ only p → r ≡ minus w one → r ≡ meet w (set_of (λ c. eqb (get_or t c 0) p) 64)
+  gained-all last one r top i u v = v ∙ ap (minus w) u ∙ ext (minus w (only p)) (meet w here) (λ c. same_test (has (minus w (only p)) c) (has (meet w here) c) (others c) (not_p c))
     where
       others : (c : ℕ) → has (minus w (only p)) c ≡ true → has (meet w here) c ≡ true
       others c h =
           let m : has w c ≡ true = minus_l w (only p) c h in
-          both_in c m (heirs_agree last c (last_moves last z e).passes m i (λ x. clash (has (only p) c) (has-only p c ∙ eq-eqb c p x) (minus_r w (only p) c h)))
+          both_in c m (heirs_agree last c top.passes m i (λ x. clash (has (only p) c) (has-only p c ∙ eq-eqb c p x) (minus_r w (only p) c h)))
 
       not_p : (c : ℕ) → has (meet w here) c ≡ true → has (minus w (only p)) c ≡ true
       not_p c h = minus_i w (only p) c (in_both c h).0 (has-only p c ∙ ne_eqb c p (λ x. omega (arith, under c (in_both c h).0 (in_both c h).1)))

@@ -8,7 +8,7 @@ use Prim.Native.Nat.{ℕ, zero, suc, ◌+◌, ◌*◌, ◌≤◌, ◌<◌}
 use native.Mathlib.Numerals.{add-one}
 use native.Mathlib.Omega.{arith}
 use lib.Dec.{eqb, ltb}
-use lib.ListN.{length, get_or, set, replicate}
+use lib.ListN.{get_or, set, replicate}
 use borrow.Author.Tests.{eq-eqb, ne_eqb, eqb-true, lt-ltb, le-ltb}
 use Rattle.sets.specs.Sets.{none, has, add, minus, union, meet, below, set_of, count, smallest, some}
 use Rattle.sets.proofs.Laws.Bools.{clash, passes, lt-or-le, eq_or_ne, same_test, cond_true, cond_false, and_i, and_not_r, or_neither, not_i, not_o}
@@ -19,7 +19,7 @@ use Rattle.tree.specs.Relations.{Ancestry, Chained}
 use Rattle.tree.specs.Calls.{mended, mended_below, moved_below, and_then}
 use Rattle.tree.specs.declared.Moved.{Moved}
 use Rattle.tree.specs.declared.Mended.{Mended}
-use Rattle.tree.proofs.Laws.Rows.{get_d_row, row_is, row_cong, Patched, patched_start, patched_put, patched_end, entry-below, entry_past, fresh_at, row_replicate}
+use Rattle.tree.proofs.Laws.Rows.{get_d_row, row_cong, Patched, patched_start, patched_put, patched_end, entry-below, entry_past, fresh_at, row_replicate}
 use Rattle.tree.proofs.Laws.Parents.{Marked, Free, parent_free, parent_stays, parent-leaves}
 use Rattle.tree.proofs.Laws.Finding.{low_is}
 use Rattle.tree.proofs.Laws.Heirs.{parent_passes, root_passes}
@@ -238,10 +238,7 @@ mended-alone anc n marks q after w t v b o et a ew z ev =
         (λ (l : n ≤ p). entry_past anc n marks p l ∙ sym (entry_past anc n (add marks q) p l))
         (lt-or-le p n)
 
--- ---- the loops of `hand_over` and `crown`
-
-pub handing_start : (t : List ℕ) (q : ℕ) (f : ℕ → ℕ) → length t ≡ 64 → Patched 0 (handed_on t q f) (λ k. get_or t k 0) 64 0 t
-handing_start t q f l = patched_start 0 (handed_on t q f) (λ k. get_or t k 0) 64 t (row_is 0 (λ k. get_or t k 0) 64 t l (λ k b. refl))
+-- ---- the loop of `hand_over`
 
 pub handing_put : (t₀ t t' : List ℕ) (q : ℕ) (f : ℕ → ℕ) (p to v : ℕ) → Patched 0 (handed_on t₀ q f) (λ k. get_or t₀ k 0) 64 p t → p < 64 → to ≡ f p → v ≡ cond (eqb (get_or t p 0) q) to (get_or t p 0) → t' ≡ set t p v
     → Patched 0 (handed_on t₀ q f) (λ k. get_or t₀ k 0) 64 (p + 1) t'

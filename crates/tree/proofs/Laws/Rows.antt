@@ -1,7 +1,8 @@
 -- Tables: what stands at each place of a row, tables that are filled or mended from the front, and the test that two tables
 -- are the same. Assumes nothing.
-use mathlib.Core.Path.{◌≡◌, refl, sym, ap, ap₂, subst, ◌∙◌}
-use mathlib.Core.Bool.{true, false}
+use mathlib.Core.Path.{◌≡◌, refl, sym, ap, ap₂, ◌∙◌}
+use mathlib.Core.Bool.{Bool, true, false, ◌&&◌}
+use Rattle.std.specs.Cmp.Lexicographic.{pointwise}
 use mathlib.Core.List.{List, [], ◌∷◌, ◌++◌}
 use mathlib.Core.Logic.{⊎_elim}
 use Prim.Native.Nat.{ℕ, zero, suc, ◌+◌, ◌≤◌, ◌<◌}
@@ -12,7 +13,7 @@ use lib.ListN.{length, get_or, set, replicate, length-append, length-set, length
 use lib.Seq.{ext_get_or, get_or-set_same, get_or-set_other, get_or-append-add}
 use borrow.Author.Tests.{lt-ltb, le-ltb, eq-eqb, eqb-true}
 use Rattle.sets.specs.Sets.{none}
-use Rattle.sets.proofs.Laws.Bools.{eq_or_ne, lt-or-le, clash, fails, and_i, and_l, and_r, cond_true, cond_false}
+use Rattle.sets.proofs.Laws.Bools.{eq_or_ne, lt-or-le, clash, and_i, and_l, and_r, cond_true, cond_false}
 use Rattle.tree.specs.Tree.{row, entry, fresh, parent}
 use Rattle.tree.specs.Calls.{same}
 
@@ -108,12 +109,10 @@ unfolding same
 same_refl [] = refl
 same_refl (x ∷ s) = and_i (eqb x x) (same s s) (eq-eqb x x refl) (same_refl s)
 
--- along the code: the entries before p are equal, all of them, or one is not
-same-all : (s t : List ℕ) → length s ≡ length t → ((k : ℕ) → k < length s → get_or s k 0 ≡ get_or t k 0) → same s t ≡ true
-same-all s t l h = subst (λ (u : List ℕ). same s u ≡ true) (ext_get_or 0 s t l h) (same_refl s)
-
-pub same_end : (s t : List ℕ) (m p : ℕ) → length s ≡ m → length t ≡ m → m ≤ p → ((k : ℕ) → k < p → get_or s k 0 ≡ get_or t k 0) → true ≡ same s t
-same_end s t m p a b l h = sym (same-all s t (a ∙ sym b) (λ k c. h k (omega arith)))
-
-pub same_not : (s t : List ℕ) (k : ℕ) → (get_or s k 0 ≡ get_or t k 0 → ⊥) → false ≡ same s t
-same_not s t k h = sym (fails (same s t) (λ e. h (ap (λ (u : List ℕ). get_or u k 0) (same-eq s t e))))
+-- along the code
+pub pointwise-same : (s t : List ℕ) → pointwise eqb s t ≡ same s t
+unfolding same
+pointwise-same [] [] = refl
+pointwise-same [] (y ∷ t) = refl
+pointwise-same (x ∷ s) [] = refl
+pointwise-same (x ∷ s) (y ∷ t) = ap (λ (b : Bool). eqb x y && b) (pointwise-same s t)

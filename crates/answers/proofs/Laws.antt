@@ -1,0 +1,2 @@
+-- All that the crates above cite of answers.
+pub mod Numbers
