@@ -111,7 +111,8 @@ pub fn step(s: State, ev: Event) -> Result<Stepped, Refused>
     }
 }
 
-// Entry point: one event on a state handed in, in the state's own form. Refuses with 1 to 11.
+// Entry point: one event on a state handed in, in the state's own form. Refuses with 1 to 11. It stays out of line, as state::start does.
+#[inline(never)]
 pub fn event(s: State, ev: Event) -> Result<Stepped, Refused>
     ensures { told result ≡ event (own_tree s) s ev }
 {

@@ -4,7 +4,7 @@
 ghost use Rattle.std.specs.Prelude.{◌≡◌, ◌<◌};
 ghost use Rattle.reader.specs.Reading.{blank, taken};
 
-// A line so far: its letter, its first N numbers, how many of them are done, and whether one is being read. Past N numbers the first are written again.
+// A line so far: its letter, its first N numbers, how many of them are done, and whether one is being read. Past N numbers digits go on at the first.
 #[derive(Clone, Copy)]
 pub struct Reader<const N: usize> {
     pub letter: u8,

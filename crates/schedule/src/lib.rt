@@ -10,8 +10,8 @@ ghost use Rattle.schedule.specs.Runs.{run, told};
 use answers::Refusal;
 use state::{Refused, State};
 
-// Spells a file's events out as numbers, where their answers will stand. batches has the same loop over lent numbers: of one that takes what gives
-// the events as a closure, the prover checks itself, and not a caller that hands a borrowing closure in.
+// Spells a file's events out as numbers, where their answers will stand. batches has the same loop over lent numbers: one that takes the events from
+// a closure proves, but where the closure reads a lent slice the prover's own goal at the call, `the-fit-spell-requires`, does not type-check.
 fn spell(file: &[u8], total: usize, out: &mut [u32])
     requires total_in_bounds { 6 + 9 * total ≤ length file.now }
     requires total_in_bounds_2 { 3 * total ≤ length out.old }
