@@ -29,6 +29,16 @@ def shape(body):
     return re.findall(r"\w+|[^\w\s]", re.sub(r"\b(?!(?:if|while|for|let|mut|return|match|loop|in|as)\b)\w+\b", "x", re.sub(r"//.*", "", body)))
 
 
+# Parameters that travel together: the point, what a head of a function then has, and what that is.
+PARAMETERS = [
+    (5, r"form: u(?:8|32), span: u(?:8|32)", "form and box size as parameters"),
+    (5, r"me: u8, (?:r: Rank, )?row: \[u8; 64\]", "rank and row as parameters"),
+    (5, r"marks: u64, (?:mut )?table: \[u8; 64\]", "marks and table as parameters"),
+    (6, r"(?:text|out): &mut \[\w+\], at: usize", "buffer with a place beside it"),
+    (6, r"(?:net|file|events|answers|numbers): &?(?:mut )?\[[^]]*\], (?:count|got|total|events|start)\b", "buffer with a length beside it"),
+    (7, r"(?:edges|leaves|dies): bool", "switch as a parameter"),
+]
+
 bodies, clauses = [], defaultdict(lambda: defaultdict(list))
 for file in sorted(root.glob("crates/*/src/*.rt")):
     crate = file.parts[-3]
@@ -58,18 +68,9 @@ for file in sorted(root.glob("crates/*/src/*.rt")):
     for name, head, body, line in functions(text):
         flat = " ".join(head.split())
         at = f"{where}:{line} {name}"
-        if re.search(r"form: u(?:8|32), span: u(?:8|32)", flat):
-            places[5, "form and box size as parameters"].append(at)
-        if re.search(r"me: u8, (?:r: Rank, )?row: \[u8; 64\]", flat):
-            places[5, "rank and row as parameters"].append(at)
-        if re.search(r"marks: u64, (?:mut )?table: \[u8; 64\]", flat):
-            places[5, "marks and table as parameters"].append(at)
-        if re.search(r"(?:text|out): &mut \[\w+\], at: usize", flat):
-            places[6, "buffer with a place beside it"].append(at)
-        if re.search(r"(?:net|file|events|answers|numbers): &?(?:mut )?\[[^]]*\], (?:count|got|total|events|start)\b", flat):
-            places[6, "buffer with a length beside it"].append(at)
-        if re.search(r"(?:edges|leaves|dies): bool", flat):
-            places[7, "switch as a parameter"].append(at)
+        for point, pattern, what in PARAMETERS:
+            if re.search(pattern, flat):
+                places[point, what].append(at)
         if re.search(r"-> u32\b", flat) and re.search(r"^\s*(?:return )?(?:[1-9]|[1-5]\d);?$", body, re.M) and re.search(r"refus|misshapen|number_of|accepted|answer", flat):
             places[1, "function that answers a refusal's number"].append(at)
         if re.search(r"-> u8\b", flat) and re.search(r"NONE|\b255\b|none", flat + body):
