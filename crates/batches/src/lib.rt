@@ -48,7 +48,7 @@ fn step_each(events: &[u32], out: &mut [u32], s: &mut State)
         return;
     }
     spell(events, out);
-    *s = playing::play(total, out, *s);
+    playing::play_on(total, out, s);
 }
 
 // Entry point: events by the handful on the state that the caller lends, in that state's form. Writes answer, sent and moved's count for each event.

@@ -3,12 +3,12 @@ use Rattle.std.specs.Prelude.{ℕ, Bool, cond, not, ◌||◌, List, Option, None
 use Rattle.sets.specs.Sets.{none, has, add, meet, minus, below}
 use Rattle.answers.specs.Refusals.{accepted, bad_size, not_in_order, bad_rank, dead_rank, too_short, bad_box, bad_form}
 use Rattle.answers.specs.Answers.{number}
-use Rattle.answers.specs.declared.Refusal.{Refusal}
 use Rattle.tree.specs.declared.Moved.{Moved}
 use Rattle.tree.specs.declared.Mended.{Mended}
 use Rattle.tree.specs.Tree.{fresh, moved, nobody, links, reached}
 use Rattle.tree.specs.Forms.{nested_form, tree_of}
 use Rattle.tree.specs.Calls.{wrong_size, same}
+use Rattle.calls.specs.declared.NotMarked.{NotMarked}
 use Rattle.calls.specs.declared.Climbed.{Climbed}
 use Rattle.calls.specs.declared.NotClimbed.{NotClimbed}
 use Rattle.calls.specs.declared.NotClimbed.TheVariants.{Refused, FromMarked, Short}
@@ -45,10 +45,10 @@ marked n form span marks table q =
     (cond (not (ltb q n)) (mark_refused bad_rank marks table)
     (record { answer = accepted; marks = add marks q; table = fresh anc n (add marks q); moved = moved anc n marks q })))
 
--- The number, view, table and moved of each reply to a mark of this view with this table.
-unfoldable pub mark_told : ℕ → List ℕ → Result Mended Refusal → Marked
-mark_told marks table (Ok m) = record { answer = accepted; marks = m.marks; table = m.table; moved = m.moved }
-mark_told marks table (Err e) = mark_refused (number e) marks table
+-- The number, view, table and moved of each reply to a mark.
+unfoldable pub mark_told : Result Mended NotMarked → Marked
+mark_told (Ok m) = record { answer = accepted; marks = m.marks; table = m.table; moved = m.moved }
+mark_told (Err e) = mark_refused (number e.refusal) e.marks e.table
 
 -- A climb answers a number, a rank and a count of links.
 pub record Told : Type 0 where

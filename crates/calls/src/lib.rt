@@ -12,6 +12,14 @@ ghost use Rattle.calls.specs.declared.NotClimbed.TheVariants.{Refused};
 use answers::Refusal;
 use tree::{Mended, View};
 
+// What a refused mark answers: why, and the view with its table as they were handed in.
+#[derive(Clone, Copy)]
+pub struct NotMarked {
+    pub refusal: Refusal,
+    pub marks: u64,
+    pub table: [u8; 64],
+}
+
 // The rank that a climb has reached, with the links climbed.
 #[derive(Clone, Copy, Debug, PartialEq, Eq)]
 pub struct Climbed {
@@ -52,6 +60,17 @@ pub fn misshapen(n: u32, form: u32, span: u32) -> Result<(), Refusal>
     Ok(())
 }
 
+// A refused mark hands back what it was given.
+fn not_marked(refusal: Refusal, marks: u64, table: [u8; 64]) -> NotMarked
+    ensures { result ≡ record { refusal = refusal; marks = marks; table = table } }
+{
+    NotMarked {
+        refusal,
+        marks,
+        table,
+    }
+}
+
 // Marks q in a view whose size, form and box size are right. Refuses with 2 or 4.
 fn mark_view(
     n: u8,
@@ -60,18 +79,18 @@ fn mark_view(
     marks: u64,
     table: [u8; 64],
     q: u32,
-) -> Result<Mended, Refusal>
+) -> Result<Mended, NotMarked>
     requires { misshapen n form span ≡ 0 }
-    ensures { mark_told marks table result ≡ marked n form span marks table q }
+    ensures { mark_told result ≡ marked n form span marks table q }
 {
     if sets::minus(marks, sets::below(n)) != 0 {
-        return Err(Refusal::NotInOrder);
+        return Err(not_marked(Refusal::NotInOrder, marks, table));
     }
     if !tree::same(table, tree::fresh(n, form, span, marks)) {
-        return Err(Refusal::NotInOrder);
+        return Err(not_marked(Refusal::NotInOrder, marks, table));
     }
     if (n as u32) <= q {
-        return Err(Refusal::BadRank);
+        return Err(not_marked(Refusal::BadRank, marks, table));
     }
     let view = View {
         n,
@@ -83,7 +102,7 @@ fn mark_view(
     Ok(view.mend(q as u8))
 }
 
-// Entry point: marks q in a view of n ranks, in a form with a box size. Refuses with 1, 50, 51, 2 or 4; the view stays as it was.
+// Entry point: marks q in a view of n ranks, in a form with a box size. Refuses with 1, 50, 51, 2 or 4, and hands the view back.
 pub fn mark(
     n: u32,
     form: u32,
@@ -91,10 +110,12 @@ pub fn mark(
     marks: u64,
     table: [u8; 64],
     q: u32,
-) -> Result<Mended, Refusal>
-    ensures { mark_told marks table result ≡ marked n form span marks table q }
+) -> Result<Mended, NotMarked>
+    ensures { mark_told result ≡ marked n form span marks table q }
 {
-    misshapen(n, form, span)?;
+    if let Err(refusal) = misshapen(n, form, span) {
+        return Err(not_marked(refusal, marks, table));
+    }
     mark_view(n as u8, form as u8, span as u8, marks, table, q)
 }
 

@@ -57,11 +57,12 @@ pub fn report(file: &[u8], answers: &mut [u32], text: &mut [u8]) -> usize
     ensures wrote { Wrote text.old 0 (drawing file.now answers.old) text.new result }
     ensures answers_after { answers.new ≡ (run file.now answers.old).answers }
 {
-    match schedule::run(file, answers) {
-        Ok(state) => draw(text, state),
-        Err(refused) => {
+    let mut s = state::empty_state();
+    match schedule::run_on(file, answers, &mut s) {
+        Ok(()) => draw(text, s),
+        Err(refusal) => {
             let mut page = Page { text, at: 0 };
-            put_refused(&mut page, refused.refusal.number());
+            put_refused(&mut page, refusal.number());
             page.at
         }
     }

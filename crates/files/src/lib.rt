@@ -2,6 +2,7 @@
 #![tactic(auto, unfolding(crate::specs::Files::byte_at, crate::specs::Files::short_at, crate::specs::Files::number_at, crate::specs::Files::event_at, crate::specs::Files::events_in, crate::specs::Files::wrong_mark, crate::specs::Files::wrong_version, crate::specs::Files::broken, crate::specs::Files::header))]
 
 ghost use Rattle.std.specs.Prelude.{◌≡◌, ◌+◌, ◌*◌, ◌≤◌, length};
+ghost use Rattle.answers.specs.Answers.{answer_of};
 ghost use Rattle.files.specs.Files.{broken, event_at, events_in, header, number_at, short_at, wrong_mark};
 
 use answers::Refusal;
@@ -94,4 +95,14 @@ pub fn read_header(file: &[u8]) -> Result<Header, Refusal>
         n: file[5],
         events: events_in(file),
     })
+}
+
+// Document 01's number for a header.
+pub fn number_of(h: Result<Header, Refusal>) -> u32
+    ensures { result ≡ answer_of h }
+{
+    match h {
+        Ok(_) => 0,
+        Err(refusal) => refusal.number(),
+    }
 }

@@ -17,7 +17,7 @@ use Rattle.refusals.specs.Refusing.{wrong_kind, wrong_rank, no_message, is_dead,
 use Rattle.state.specs.Starting.{first_rank, first_row, fresh_state, empty_state, started}
 use Rattle.order.specs.Order.{proper, triple_within, is_zero, clauses, rank_in_order, is_within, member_in_order, zero_record, stranger_in_order, seat_in_order, seat_in_order_at, message_in_order, zero_place, place_in_order, place_in_order_at, in_order}
 use Rattle.plans.specs.Plans.{subject, acting, refusing, accepting, afterwards, fitting, planned}
-use Rattle.group.specs.Events.{posted, applied, refused, carried, subject_of, plan_of, stepped, event}
+use Rattle.group.specs.Events.{posted, applied, carried, subject_of, plan_of, stepped, event}
 use Rattle.group.specs.Examples.{answers, alone, examples}
 
 pub examples_hold : all examples ≡ true

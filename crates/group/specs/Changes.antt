@@ -15,8 +15,7 @@ named s ev = cond (names_place ev.kind) (place_at s ev.a).to ev.a
 
 -- What the event has that rank do.
 unfoldable pub doing : (ℕ → ℕ) → State → Event → Acted
-doing anc s ev =
-    acting anc s.group.n s.group.dead ev (place_at s ev.a) (named s ev) (rank_at s (named s ev)) (row_at s (named s ev))
+doing anc s ev = acting anc s.group.n s.group.dead ev (place_at s ev.a) (named s ev) (rank_at s (named s ev)) (row_at s (named s ev))
 
 -- The messages that it sends, in the order written, each send ascending.
 unfoldable pub sends : (ℕ → ℕ) → State → Event → List Message

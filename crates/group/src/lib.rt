@@ -4,7 +4,7 @@
 ghost use Rattle.std.specs.Prelude.{◌≡◌, cond, true, ◌+◌, ◌-◌, ◌<◌, ◌≤◌, length};
 ghost use Rattle.sets.specs.Sets.{add};
 ghost use Rattle.rank.specs.Sends.{size};
-ghost use Rattle.state.specs.States.{own_tree, rank_at, row_at};
+ghost use Rattle.state.specs.States.{own_tree};
 ghost use Rattle.plans.specs.Plans.{as_planned};
 ghost use Rattle.plans.specs.Plans as Plans;
 ghost use Rattle.order.specs.Between.{InOrder};
@@ -14,7 +14,7 @@ ghost use Rattle.group.specs.Between.{Carriable};
 use answers::Refusal;
 use events::Event;
 use net::Flight;
-use plans::Plan;
+use plans::{NotPlanned, Plan};
 use rank::Seat;
 use state::{Refused, State};
 use tree::Moved;
@@ -46,9 +46,9 @@ fn subject_of(s: &State, ev: Event) -> u8
 }
 
 // What an event on a state in order will change, or why it is refused.
-fn plan_of(s: &State, ev: Event) -> Result<Plan, Refusal>
+fn plan_of(s: &State, ev: Event) -> Result<Plan, NotPlanned>
     requires { InOrder (own_tree s.now) s.now }
-    ensures { Plans.told (rank_at s.now (subject_of s.now ev)) (row_at s.now (subject_of s.now ev)) result ≡ plan_of (own_tree s.now) s.now ev }
+    ensures { Plans.told result ≡ plan_of (own_tree s.now) s.now ev }
 {
     let g = &s.group;
     let m = net::at(g.net, ev.a);
@@ -107,7 +107,10 @@ pub fn step(s: State, ev: Event) -> Result<Stepped, Refused>
                 state,
             })
         }
-        Err(refusal) => Err(Refused { refusal, state: s }),
+        Err(none) => Err(Refused {
+            refusal: none.refusal,
+            state: s,
+        }),
     }
 }
 

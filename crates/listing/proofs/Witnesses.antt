@@ -20,7 +20,7 @@ use Rattle.state.specs.Starting.{first_rank, first_row, fresh_state, empty_state
 use Rattle.order.specs.Order.{proper, triple_within, is_zero, clauses, rank_in_order, is_within, member_in_order, zero_record, stranger_in_order, seat_in_order, seat_in_order_at, message_in_order, zero_place, place_in_order, place_in_order_at, in_order}
 use Rattle.order.proofs.Laws.Fresh.{fresh_in_order}
 use Rattle.plans.specs.Plans.{subject, refusing, accepting, afterwards, fitting, delivered, acting, planned}
-use Rattle.group.specs.Events.{posted, applied, refused, carried, subject_of, plan_of, stepped, event}
+use Rattle.group.specs.Events.{posted, applied, carried, subject_of, plan_of, stepped, event}
 use Rattle.playing.specs.Playing.{Run, written, told, played}
 use Rattle.text.specs.Text.{digits_of, decimal, field, lines}
 use Rattle.files.specs.Files.{byte_at, short_at, number_at, event_at, events_in, wrong_mark, wrong_version, broken, header}

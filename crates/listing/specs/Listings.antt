@@ -14,8 +14,7 @@ rank_lines s = lines (λ i. rank_line s.group.dead i (get_or s.group.ranks i zer
 
 -- The listing of a run of so many events, from its answers and its final state.
 unfoldable pub listing : ℕ → List ℕ → State → List ℕ
-listing events answers s =
-    first_line s.group.n events ++ (lines (event_line answers) events ++ (rank_lines s ++ last_line s.group.count))
+listing events answers s = first_line s.group.n events ++ (lines (event_line answers) events ++ (rank_lines s ++ last_line s.group.count))
 
 -- What the schedule program prints for a file, whose run has the answers in a lent slice.
 unfoldable pub report_of : List ℕ → Run → List ℕ

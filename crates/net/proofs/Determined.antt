@@ -5,10 +5,13 @@ use Prim.Native.Nat.{ℕ}
 use contract.Lifetimes.{Lfts}
 use Rattle.sets.proofs.Laws.Alike.{alike}
 use Rattle.rank.specs.declared.Message.{Message}
+use Rattle.net.proofs.Laws.Numbers.{same_numbers}
 use Rattle.net.proofs.nothing.Reads as nothing
 use Rattle.net.proofs.at.Reads as at
 use Rattle.net.proofs.Flight.of.Reads as of
 use Rattle.net.proofs.Flight.places.Reads as places
+use Rattle.net.proofs.Flight.of_numbers.Reads as of_numbers
+use Rattle.net.proofs.Flight.numbers.Reads as numbers
 use Rattle.net.proofs.Flight.count.Reads as count
 use Rattle.net.proofs.Flight.at.Reads as flight_at
 use Rattle.net.proofs.Flight.forward.Reads as forward
@@ -25,6 +28,13 @@ of_determined κs a t u x y e f = alike e f
 
 pub places_determined : (κs : Lfts 1) (a : _) (t u : List Message) (x y : _) → places.Post κs a t x → places.Post κs a u y → t ≡ u
 places_determined κs a t u x y e f = alike e f
+
+pub of_numbers_determined : (κs : Lfts 0) (a : _) (t u : List Message) (x y : _) → of_numbers.Post κs a t x → of_numbers.Post κs a u y → t ≡ u
+of_numbers_determined κs a t u x y e f = alike e f
+
+-- Small numbers of the same messages are the same.
+pub numbers_determined : (κs : Lfts 1) (a : _) (t u : List ℕ) (x y : _) → numbers.Post κs a t x → numbers.Post κs a u y → t ≡ u
+numbers_determined κs a t u x y e f = same_numbers t u e.1 f.1 (alike e.0 f.0)
 
 pub count_determined : (κs : Lfts 1) (a : _) (t u : ℕ) (x y : _) → count.Post κs a t x → count.Post κs a u y → t ≡ u
 count_determined κs a t u x y e f = alike e f

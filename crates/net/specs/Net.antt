@@ -1,5 +1,5 @@
 -- The list of messages in flight. A record keeps it in 128 places: the messages in order, then zeros.
-use Rattle.std.specs.Prelude.{ℕ, suc, ◌+◌, ◌-◌, ◌*◌, ◌/◌, ◌%◌, List, ◌++◌, length, get_or, take, drop, replicate}
+use Rattle.std.specs.Prelude.{ℕ, suc, ◌+◌, ◌-◌, ◌*◌, ◌/◌, ◌%◌, ◌^◌, ◌<◌, ◌≡◌, List, ◌++◌, length, get_or, take, drop, replicate}
 use Rattle.tree.specs.Tree.{row}
 use Rattle.rank.specs.declared.Message.{Message}
 use Rattle.rank.specs.declared.Send.{Send}
@@ -42,3 +42,9 @@ message_of x k a =
 -- What an array of 384 such numbers holds: the message of place i has its numbers at i, at 128 + i and at 256 + i.
 unfoldable pub messages_of : List ℕ → List Message
 messages_of l = row (λ i. message_of (get_or l i 0) (get_or l (in_flight + i) 0) (get_or l (2 * in_flight + i) 0)) in_flight
+
+-- There are 384 of them, of eight bytes, and the first of a message has seven.
+pub record Small (numbers : List ℕ) : Type 0 where
+  pub long : length numbers ≡ 3 * in_flight
+  pub first : (i : ℕ) → i < in_flight → get_or numbers i 0 < 2 ^ 56
+  pub bound : (i : ℕ) → get_or numbers i 0 < 2 ^ 64

@@ -1,10 +1,10 @@
 // The messages in flight: 128 places, zero after the last message.
 #![tactic(auto)]
 
-ghost use Rattle.std.specs.Prelude.{◌≡◌, List, cond, true, ◌++◌, ◌∷◌, [], ◌+◌, ◌-◌, ◌<◌, ◌≤◌, get_or, length, set, take};
+ghost use Rattle.std.specs.Prelude.{◌≡◌, List, cond, true, ◌++◌, ◌∷◌, [], ◌+◌, ◌-◌, ◌^◌, ◌<◌, ◌≤◌, get_or, length, set, take};
 ghost use Rattle.rank.specs.declared.Message.{Message};
 ghost use Rattle.rank.specs.Sends.{letters, size};
-ghost use Rattle.net.specs.Net.{joining, message_of, messages_of, padded, placed, without, zero_message};
+ghost use Rattle.net.specs.Net.{joining, message_of, messages_of, padded, placed, Small, without, zero_message};
 
 use rank::{Message, Send, Triple};
 use std::marker::Model;
@@ -34,7 +34,8 @@ pub fn at(net: [Message; 128], place: u32) -> Message
 
 // The first of a message's three numbers, and the message of three.
 fn number_of(m: Message) -> u64
-    ensures { message_of result m.triple.known m.triple.acknowledged ≡ m }
+    ensures message { message_of result m.triple.known m.triple.acknowledged ≡ m }
+    ensures upper_bound { result < 2 ^ 56 }
 {
     m.kind as u64
         + 256 * (m.from as u64)
@@ -61,7 +62,8 @@ fn message_of(x: u64, known: u64, acknowledged: u64) -> Message
 // A message is put at a place; and the message of the next place is.
 fn put(numbers: &mut [u64; 384], place: u8, m: Message)
     requires { place < 128 }
-    ensures { messages_of numbers.new ≡ set (messages_of numbers.old) place m }
+    ensures messages { messages_of numbers.new ≡ set (messages_of numbers.old) place m }
+    ensures small { Small numbers.old → Small numbers.new }
 {
     let i = place as usize;
     numbers[i] = number_of(m);
@@ -115,6 +117,25 @@ impl Flight {
         let mut found = [nothing(); 128];
         for i in 0..self.count {
             found[i as usize] = self.at(i as u32);
+        }
+        found
+    }
+
+    // Of a caller's messages as numbers, and back. Past the last message the numbers that come back are 0.
+    pub fn of_numbers(numbers: [u64; 384], count: u8) -> Flight
+        requires { count ≤ 128 }
+        ensures { result ≡ take count (messages_of numbers) }
+    {
+        Flight { count, numbers }
+    }
+
+    pub fn numbers(&self) -> [u64; 384]
+        ensures messages { messages_of result ≡ padded self.now }
+        ensures small { Small result }
+    {
+        let mut found = [0u64; 384];
+        for i in 0..self.count {
+            put(&mut found, i, self.at(i as u32));
         }
         found
     }

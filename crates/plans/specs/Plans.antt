@@ -1,7 +1,6 @@
 -- The plan of an event: what it has one rank do, whether its message leaves and its rank dies, or why it is refused. Over any ancestor sets.
 use Rattle.std.specs.Prelude.{ℕ, ◌+◌, ◌-◌, Bool, false, cond, ◌||◌, List, eqb, ltb, Result, Ok, Err}
 use Rattle.sets.specs.Sets.{has}
-use Rattle.answers.specs.declared.Refusal.{Refusal}
 use Rattle.answers.specs.Answers.{number}
 use Rattle.answers.specs.Refusals.{accepted, too_many}
 use Rattle.tree.specs.Tree.{nobody}
@@ -16,6 +15,7 @@ use Rattle.events.specs.declared.Event.{Event}
 use Rattle.events.specs.Events.{enters, delivers, crashes, notices, acknowledges, names_place}
 use Rattle.refusals.specs.Refusing.{refusal}
 use Rattle.plans.specs.declared.Plan.{Plan}
+use Rattle.plans.specs.declared.NotPlanned.{NotPlanned}
 
 -- A rank that does nothing, with its row.
 abbrev pub idle : Rank → List ℕ → Acted
@@ -75,6 +75,6 @@ module _ (anc : ℕ → ℕ) (n dead : ℕ) where
 abbrev pub as_planned : Plan → Planned
 as_planned p = record { answer = accepted; leaves = p.leaves; dies = p.dies; acted = p.acted }
 
-abbrev pub told : Rank → List ℕ → Result Plan Refusal → Planned
-told r row (Ok p) = as_planned p
-told r row (Err e) = refusing (number e) r row
+abbrev pub told : Result Plan NotPlanned → Planned
+told (Ok p) = as_planned p
+told (Err e) = refusing (number e.refusal) e.rank e.row

@@ -46,16 +46,30 @@ pub fn put_three(out: &mut [u32], k: usize, x: u32, y: u32, z: u32)
     out[place + 2] = z;
 }
 
-// One event on a state in order, whose messages in flight are held beside it. Only what the event changes is stored.
+// One event on a state in order, whose messages in flight are held beside it. Only what the event changes is stored: a refusal is found before the
+// rank's record and row are taken out, and so is a death that is known.
 fn advance(s: &mut State, flight: &mut Flight, ev: Event) -> Result<Told, Refusal>
     requires { InOrder (own_tree s.old) (listed s.old flight.old) }
     ensures { told_of result (listed s.new flight.new) ≡ event (own_tree s.old) (listed s.old flight.old) ev }
 {
     let m = flight.at(ev.a);
     let me = plans::subject(s.group.n, ev, m);
-    let r = s.group.ranks[me as usize];
     let count = flight.count();
-    refusals::refusal(s.group.n, s.group.dead, count, ev, r, m)?;
+    refusals::refusal(
+        s.group.n,
+        s.group.dead,
+        count,
+        ev,
+        s.group.ranks[me as usize],
+        m,
+    )?;
+    if plans::known(ev, s.group.ranks[me as usize].marks) {
+        return Ok(Told {
+            sent: 0,
+            moved: Moved::nobody(),
+        });
+    }
+    let r = s.group.ranks[me as usize];
     let row = s.tables[me as usize];
     let seat = Seat {
         n: s.group.n,
@@ -65,7 +79,10 @@ fn advance(s: &mut State, flight: &mut Flight, ev: Event) -> Result<Told, Refusa
         rank: r,
         row,
     };
-    let p = plans::plan_clean(seat, s.group.dead, count, ev, m)?;
+    let p = plans::draft(seat, s.group.dead, ev, m);
+    if 128 < plans::afterwards(count, p.acted.first, p.acted.second, p.leaves) {
+        return Err(Refusal::TooMany);
+    }
     let sent = group::post(flight, ev.a, me, p);
     let told = Told {
         sent,
@@ -81,22 +98,32 @@ fn advance(s: &mut State, flight: &mut Flight, ev: Event) -> Result<Told, Refusa
     Ok(told)
 }
 
-// Plays the events that are spelt out in the slice on a state in order; what is told of an event takes its place.
-pub fn play(total: usize, out: &mut [u32], mut s: State) -> State
-    requires in_order { InOrder (own_tree s) s }
+// Plays the events that are spelt out in the slice on a state in order, which is lent; what is told of an event takes its place.
+pub fn play_on(total: usize, out: &mut [u32], s: &mut State)
+    requires in_order { InOrder (own_tree s.old) s.old }
     requires total_in_bounds { 3 * total ≤ length out.old }
-    ensures value { result ≡ (played (own_tree s) (event_in out.old) total 0 s out.old).state }
-    ensures out_after { out.new ≡ (played (own_tree s) (event_in out.old) total 0 s out.old).answers }
+    ensures s_after { s.new ≡ (played (own_tree s.old) (event_in out.old) total 0 s.old out.old).state }
+    ensures out_after { out.new ≡ (played (own_tree s.old) (event_in out.old) total 0 s.old out.old).answers }
 {
     let mut flight = Flight::of(s.group.net, s.group.count);
     for k in 0..total {
         let ev = event_in(out, k);
-        match advance(&mut s, &mut flight, ev) {
+        match advance(s, &mut flight, ev) {
             Ok(told) => put_three(out, k, 0, told.sent, told.moved.count),
             Err(refusal) => put_three(out, k, refusal.number(), 0, 0),
         }
     }
     s.group.count = flight.count();
     s.group.net = flight.places();
+}
+
+// The same for a caller that holds a state by value.
+pub fn play(total: usize, out: &mut [u32], mut s: State) -> State
+    requires in_order { InOrder (own_tree s) s }
+    requires total_in_bounds { 3 * total ≤ length out.old }
+    ensures value { result ≡ (played (own_tree s) (event_in out.old) total 0 s out.old).state }
+    ensures out_after { out.new ≡ (played (own_tree s) (event_in out.old) total 0 s out.old).answers }
+{
+    play_on(total, out, &mut s);
     s
 }

@@ -11,8 +11,9 @@ pub extern "C" fn duha_run(file: &[u8], out: &mut [u32]) -> u32
     ensures value { result ≡ (run file.now out.old).answer }
     ensures out_after { out.new ≡ (run file.now out.old).answers }
 {
-    match schedule::run(file, out) {
-        Ok(_) => 0,
-        Err(refused) => refused.refusal.number(),
+    let mut s = state::empty_state();
+    match schedule::run_on(file, out, &mut s) {
+        Ok(()) => 0,
+        Err(refusal) => refusal.number(),
     }
 }

@@ -55,7 +55,8 @@ pub struct Rank {
 }
 
 // A rank at its seat: its group's size and tree, its own number, its record, and its row, the fresh table of its view. That its awaited set is
-// the fresh one is a clause and no field: acknowledge asks nothing of it.
+// the fresh one is a clause and no field: acknowledge asks nothing of it. A row is looked up in a copy, so that a compiler can hold the other
+// fields in registers.
 #[derive(Clone, Copy)]
 pub struct Seat {
     pub n: u8,
@@ -248,11 +249,11 @@ impl Rank {
 
 impl Seat {
     // Its view, with its row for a table.
-    fn own_view(self) -> View
-        ensures n_value { result.n ≡ self.n }
-        ensures form_value { result.form ≡ self.form }
-        ensures span_value { result.span ≡ self.span }
-        ensures marks_value { result.marks ≡ self.rank.marks }
+    fn own_view(&self) -> View
+        ensures n_value { result.n ≡ self.now.n }
+        ensures form_value { result.form ≡ self.now.form }
+        ensures span_value { result.span ≡ self.now.span }
+        ensures marks_value { result.marks ≡ self.now.rank.marks }
     {
         let table = self.row;
         View {
@@ -264,35 +265,36 @@ impl Seat {
         }
     }
 
-    fn children(self) -> u64
-        ensures { result ≡ children_of (tree_of self.form self.span) self.n self.me self.rank }
+    fn children(&self) -> u64
+        ensures { result ≡ children_of (tree_of self.now.form self.now.span) self.now.n self.now.me self.now.rank }
     {
         self.own_view().children_of(self.me)
     }
 
     // Its view once q is marked, and once all below q are.
-    fn mended(self, q: u8) -> Mended
-        requires { q < self.n }
-        ensures { result ≡ mended (tree_of self.form self.span) self.n self.rank.marks q }
+    fn mended(&self, q: u8) -> Mended
+        requires { q < self.now.n }
+        ensures { result ≡ mended (tree_of self.now.form self.now.span) self.now.n self.now.rank.marks q }
     {
         self.own_view().mend(q)
     }
 
-    fn mended_below(self, q: u8) -> Mended
-        requires { q ≤ self.n }
-        ensures { result ≡ mended_below (tree_of self.form self.span) self.n self.rank.marks q }
+    fn mended_below(&self, q: u8) -> Mended
+        requires { q ≤ self.now.n }
+        ensures { result ≡ mended_below (tree_of self.now.form self.now.span) self.now.n self.now.rank.marks q }
     {
         self.own_view().mend_below(q)
     }
 
     // Result x, phase decided, DOWN x to every unmarked rank in children or owed.
-    fn decide(self, x: Triple) -> Said
-        requires { Awaits (tree_of self.form self.span) self.n self.me self.rank }
-        ensures { result ≡ deciding (tree_of self.form self.span) self.n self.me x self.rank }
+    fn decide(&self, x: Triple) -> Said
+        requires { Awaits (tree_of self.now.form self.now.span) self.now.n self.now.me self.now.rank }
+        ensures { result ≡ deciding (tree_of self.now.form self.now.span) self.now.n self.now.me x self.now.rank }
     {
         let mut r = self.rank;
+        let row = self.row;
         // a child is awaited or was heard; of the heard ones, who is owed is told anyway, and only the others are looked up
-        let heard = tree::pointing(self.row, sets::minus(r.heard, r.owed), self.me);
+        let heard = tree::pointing(row, sets::minus(r.heard, r.owed), self.me);
         let children = sets::union(r.awaited, heard);
         let to = sets::minus(sets::union(children, r.owed), r.marks);
         r.phase = DECIDED;
@@ -301,15 +303,17 @@ impl Seat {
     }
 
     // Decides or reports, where it gathers and nobody is awaited any more.
-    fn settled(self) -> Said
-        requires { Awaits (tree_of self.form self.span) self.n self.me self.rank }
-        ensures { result ≡ settled (tree_of self.form self.span) self.n self.me self.rank }
+    #[inline(always)]
+    fn settled(&self) -> Said
+        requires { Awaits (tree_of self.now.form self.now.span) self.now.n self.now.me self.now.rank }
+        ensures { result ≡ settled (tree_of self.now.form self.now.span) self.now.n self.now.me self.now.rank }
     {
         let mut r = self.rank;
         if (r.phase != GATHERING) | (r.awaited != 0) {
             return r.saying(Send::silent());
         }
-        let parent = self.row[self.me as usize];
+        let row = self.row;
+        let parent = row[self.me as usize];
         if parent == sets::NONE {
             return self.decide(r.triple.close(r.marks));
         }
@@ -318,10 +322,11 @@ impl Seat {
         r.saying(send)
     }
 
-    // Settles; `first` is what the rule has sent before.
-    pub fn settle(self, first: Send, moved: Moved) -> Acted
-        requires { Awaits (tree_of self.form self.span) self.n self.me self.rank }
-        ensures { result ≡ settling (tree_of self.form self.span) self.n self.me (saying self.rank first) moved }
+    // Settles; `first` is what the rule has sent before. In line, and on the seat where it stands: a copy of it costs a rule more than the rule.
+    #[inline(always)]
+    fn acted(&self, first: Send, moved: Moved) -> Acted
+        requires { Awaits (tree_of self.now.form self.now.span) self.now.n self.now.me self.now.rank }
+        ensures { result ≡ settling (tree_of self.now.form self.now.span) self.now.n self.now.me (saying self.now.rank first) moved }
     {
         let row = self.row;
         let end = self.settled();
@@ -334,9 +339,17 @@ impl Seat {
         }
     }
 
+    // The same for a caller that holds a seat by value.
+    pub fn settle(self, first: Send, moved: Moved) -> Acted
+        requires { Awaits (tree_of self.form self.span) self.n self.me self.rank }
+        ensures { result ≡ settling (tree_of self.form self.span) self.n self.me (saying self.rank first) moved }
+    {
+        self.acted(first, moved)
+    }
+
     // A rule that moves nobody and does not settle ends here.
-    fn done(self, first: Send) -> Acted
-        ensures { result ≡ done (tree_of self.form self.span) self.n self.me (saying self.rank first) nobody }
+    fn done(&self, first: Send) -> Acted
+        ensures { result ≡ done (tree_of self.now.form self.now.span) self.now.n self.now.me (saying self.now.rank first) nobody }
     {
         let row = self.row;
         Acted {
@@ -355,7 +368,7 @@ impl Seat {
     {
         self.rank.triple = self.rank.triple.combine(self.rank.propose(w));
         self.rank.phase = GATHERING;
-        self.settle(Send::silent(), Moved::nobody())
+        self.acted(Send::silent(), Moved::nobody())
     }
 
     // UP x from q.
@@ -366,13 +379,13 @@ impl Seat {
         ensures { result ≡ taking_up (tree_of self.form self.span) self.n self.me q x self.rank }
     {
         if self.rank.phase == DECIDED {
-            return self.settle(Send::down(self.rank.result, sets::only(q)), Moved::nobody());
+            return self.acted(Send::down(self.rank.result, sets::only(q)), Moved::nobody());
         }
         self.rank.heard = sets::with(self.rank.heard, q);
         self.rank.owed = sets::with(self.rank.owed, q);
         self.rank.awaited = sets::minus(self.rank.awaited, sets::only(q));
         self.rank.triple = self.rank.triple.combine(x);
-        self.settle(Send::silent(), Moved::nobody())
+        self.acted(Send::silent(), Moved::nobody())
     }
 
     // DOWN x.
@@ -389,13 +402,13 @@ impl Seat {
     }
 
     // A new view, and who of those who moved by it came here: awaited are those who stayed and those who came, if not heard and not marked.
-    fn view(self, m: Mended, gained: u64) -> Rank
-        requires table_value { m.table ≡ fresh (tree_of self.form self.span) self.n m.marks }
-        requires awaits { Awaits (tree_of self.form self.span) self.n self.me self.rank }
-        requires marks_stay { (p : ℕ) → has m.marks p ≡ false → has self.rank.marks p ≡ false }
-        requires parents_stay { (p : ℕ) → p < self.n → has m.marks p ≡ false → has m.moved.ranks p ≡ false → parent (tree_of self.form self.span) m.marks p ≡ parent (tree_of self.form self.span) self.rank.marks p }
-        requires gained_value { gained ≡ meet m.moved.ranks (set_of (λ p. eqb (get_or m.table p 0) self.me) 64) }
-        ensures { result ≡ viewing (tree_of self.form self.span) self.n self.me m.marks self.rank }
+    fn view(&self, m: Mended, gained: u64) -> Rank
+        requires table_value { m.table ≡ fresh (tree_of self.now.form self.now.span) self.now.n m.marks }
+        requires awaits { Awaits (tree_of self.now.form self.now.span) self.now.n self.now.me self.now.rank }
+        requires marks_stay { (p : ℕ) → has m.marks p ≡ false → has self.now.rank.marks p ≡ false }
+        requires parents_stay { (p : ℕ) → p < self.now.n → has m.marks p ≡ false → has m.moved.ranks p ≡ false → parent (tree_of self.now.form self.now.span) m.marks p ≡ parent (tree_of self.now.form self.now.span) self.now.rank.marks p }
+        requires gained_value { gained ≡ meet m.moved.ranks (set_of (λ p. eqb (get_or m.table p 0) self.now.me) 64) }
+        ensures { result ≡ viewing (tree_of self.now.form self.now.span) self.now.n self.now.me m.marks self.now.rank }
     {
         let mut r = self.rank;
         let stayed = sets::minus(r.awaited, m.moved.ranks);
@@ -417,13 +430,13 @@ impl Seat {
         self.row = table;
         let reply = self.answer(q);
         self.rank = reply.rank;
-        self.settle(reply.send, m.moved)
+        self.acted(reply.send, m.moved)
     }
 
     // What an ASK from q means to a rank that has marked all below q: DOWN if decided, else UP if q is now the parent.
-    fn answer(self, q: u8) -> Said
-        requires { q < self.n }
-        ensures { result ≡ asked (tree_of self.form self.span) self.n self.me q self.rank }
+    fn answer(&self, q: u8) -> Said
+        requires { q < self.now.n }
+        ensures { result ≡ asked (tree_of self.now.form self.now.span) self.now.n self.now.me q self.now.rank }
     {
         let mut r = self.rank;
         if r.phase == DECIDED {
@@ -463,30 +476,32 @@ impl Seat {
         self.row = table;
         let said = self.mourn(parent_died, child_died, gained);
         self.rank = said.rank;
-        self.settle(said.send, m.moved)
+        self.acted(said.send, m.moved)
     }
 
     // Whether it waits, and q is its parent.
-    fn waits_for(self, q: u8) -> bool
-        ensures { result ≡ in_phase waiting self.rank && eqb (parent_of (tree_of self.form self.span) self.me self.rank) q }
+    fn waits_for(&self, q: u8) -> bool
+        ensures { result ≡ in_phase waiting self.now.rank && eqb (parent_of (tree_of self.now.form self.now.span) self.now.me self.now.rank) q }
     {
-        (self.rank.phase == WAITING) & (self.row[self.me as usize] == q)
+        let row = self.row;
+        (self.rank.phase == WAITING) & (row[self.me as usize] == q)
     }
 
     // Whether it gathers without a parent, and q is its child.
-    fn lost_child(self, q: u8) -> bool
-        requires q_lt_n { q < self.n }
-        requires q_value { has self.rank.marks q ≡ false }
-        ensures { result ≡ in_phase gathering self.rank && eqb (parent_of (tree_of self.form self.span) self.me self.rank) none && has (children_of (tree_of self.form self.span) self.n self.me self.rank) q }
+    fn lost_child(&self, q: u8) -> bool
+        requires q_lt_n { q < self.now.n }
+        requires q_value { has self.now.rank.marks q ≡ false }
+        ensures { result ≡ in_phase gathering self.now.rank && eqb (parent_of (tree_of self.now.form self.now.span) self.now.me self.now.rank) none && has (children_of (tree_of self.now.form self.now.span) self.now.n self.now.me self.now.rank) q }
     {
+        let row = self.row;
         (self.rank.phase == GATHERING)
-            & (self.row[self.me as usize] == sets::NONE)
-            & (self.row[q as usize] == self.me)
+            & (row[self.me as usize] == sets::NONE)
+            & (row[q as usize] == self.me)
     }
 
     // What the death means to a rank that has marked it: that of its parent, of a child, whose children it has gained, or of another.
-    fn mourn(self, parent_died: bool, child_died: bool, gained: u64) -> Said
-        ensures { result ≡ cond parent_died (orphaned (tree_of self.form self.span) self.n self.me self.rank) (cond child_died (saying self.rank (asks gained)) (saying self.rank silent)) }
+    fn mourn(&self, parent_died: bool, child_died: bool, gained: u64) -> Said
+        ensures { result ≡ cond parent_died (orphaned (tree_of self.now.form self.now.span) self.now.n self.now.me self.now.rank) (cond child_died (saying self.now.rank (asks gained)) (saying self.now.rank silent)) }
     {
         if parent_died {
             return self.orphan();
@@ -498,11 +513,12 @@ impl Seat {
     }
 
     // Waiting, and the parent died: reports to the new parent, or gathers again as the root and asks all children.
-    fn orphan(self) -> Said
-        ensures { result ≡ orphaned (tree_of self.form self.span) self.n self.me self.rank }
+    fn orphan(&self) -> Said
+        ensures { result ≡ orphaned (tree_of self.now.form self.now.span) self.now.n self.now.me self.now.rank }
     {
         let mut r = self.rank;
-        let parent = self.row[self.me as usize];
+        let row = self.row;
+        let parent = row[self.me as usize];
         if parent != sets::NONE {
             return r.saying(r.report(parent));
         }

@@ -2,6 +2,7 @@
 #![tactic(auto)]
 
 ghost use Rattle.std.specs.Prelude.{◌≡◌, ◌+◌, ◌*◌, ◌≤◌, length};
+ghost use Rattle.answers.specs.Answers.{answer_of};
 ghost use Rattle.state.specs.Starting.{empty_state};
 ghost use Rattle.playing.specs.Playing.{spelt};
 ghost use Rattle.files.specs.Files.{event_at};
@@ -23,26 +24,31 @@ fn spell(file: &[u8], total: usize, out: &mut [u32])
     }
 }
 
-// A refused run gives the group of a refused start.
-fn refused(refusal: Refusal) -> Refused
-    ensures { result ≡ record { refusal = refusal; state = empty_state } }
+// Runs a schedule file on the empty state that the caller lends, which stays as it is where the file is refused.
+pub fn run_on(file: &[u8], out: &mut [u32], s: &mut State) -> Result<(), Refusal>
+    requires { s.old ≡ empty_state }
+    ensures answer { answer_of result ≡ (run file.now out.old).answer }
+    ensures s_after { s.new ≡ (run file.now out.old).state }
+    ensures out_after { out.new ≡ (run file.now out.old).answers }
 {
-    match state::start(0, 0, 1) {
-        Ok(state) => Refused { refusal, state },
-        Err(nobody) => Refused { refusal, ..nobody },
+    let h = files::read_header(file)?;
+    let total = h.events as usize;
+    if out.len() < 3 * total {
+        return Err(Refusal::FewPlaces);
     }
+    state::seat(s, h.n, tree::FLAT, 1);
+    spell(file, total, out);
+    playing::play_on(total, out, s);
+    Ok(())
 }
 
 // Entry point: runs a schedule file, which means the flat form with box size 1, and writes answer, sent and moved's count for each event. Refuses with 20, 21, 22, 1, 24, 23 and 25.
 pub fn run(file: &[u8], out: &mut [u32]) -> Result<State, Refused>
     ensures { told result out.new ≡ run file.now out.old }
 {
-    let h = files::read_header(file).map_err(refused)?;
-    let total = h.events as usize;
-    if out.len() < 3 * total {
-        return Err(refused(Refusal::FewPlaces));
+    let mut s = state::empty_state();
+    match run_on(file, out, &mut s) {
+        Ok(()) => Ok(s),
+        Err(refusal) => Err(Refused { refusal, state: s }),
     }
-    let fresh = state::start(h.n as u32, tree::FLAT as u32, 1)?;
-    spell(file, total, out);
-    Ok(playing::play(total, out, fresh))
 }

@@ -1,11 +1,12 @@
 // A state: the group record with the tables beside it. The entry point for callers is start; it refuses bad input and requires nothing.
 #![tactic(auto)]
 
-ghost use Rattle.std.specs.Prelude.{◌≡◌, ◌≤◌};
+ghost use Rattle.std.specs.Prelude.{◌≡◌, ◌≤◌, replicate};
+ghost use Rattle.sets.specs.Sets.{none};
 ghost use Rattle.tree.specs.Tree.{fresh, row};
 ghost use Rattle.tree.specs.Forms.{tree_of};
 ghost use Rattle.calls.specs.Calls.{misshapen};
-ghost use Rattle.state.specs.States.{zero_rank};
+ghost use Rattle.state.specs.States.{joined, zero_rank};
 ghost use Rattle.state.specs.Starting.{empty_state, first_rank, first_row, fresh_state, started, told};
 
 use answers::Refusal;
@@ -38,6 +39,19 @@ pub struct Refused {
     pub state: State,
 }
 
+// The two parts of a state: put together, and the tables taken out.
+pub fn join(group: Group, tables: [[u8; 64]; 64]) -> State
+    ensures { result ≡ joined group tables }
+{
+    State { group, tables }
+}
+
+pub fn tables_of(s: State) -> [[u8; 64]; 64]
+    ensures { result ≡ s.tables }
+{
+    s.tables
+}
+
 // A record past the group.
 pub fn no_rank() -> Rank
     ensures { result ≡ zero_rank }
@@ -54,24 +68,30 @@ pub fn no_rank() -> Rank
     }
 }
 
-// The records of n fresh ranks, and their rows.
-fn first_seats(n: u8, form: u8, span: u8, table: [u8; 64]) -> ([Rank; 64], [[u8; 64]; 64])
+// The records of n fresh ranks, and their rows, into arrays that hold nobody yet.
+fn first_seats(
+    n: u8,
+    form: u8,
+    span: u8,
+    table: [u8; 64],
+    ranks: &mut [Rank; 64],
+    tables: &mut [[u8; 64]; 64],
+)
     requires n_bound { n ≤ 64 }
     requires table_value { table ≡ fresh (tree_of form span) n 0 }
-    ensures ranks_value { result.0 ≡ row (first_rank (tree_of form span) n) 64 }
-    ensures tables_value { result.1 ≡ row (first_row (tree_of form span) n) 64 }
+    requires no_ranks { ranks.old ≡ replicate 64 zero_rank }
+    requires no_rows { tables.old ≡ replicate 64 (replicate 64 none) }
+    ensures ranks_after { ranks.new ≡ row (first_rank (tree_of form span) n) 64 }
+    ensures tables_after { tables.new ≡ row (first_row (tree_of form span) n) 64 }
 {
-    let mut ranks = [no_rank(); 64];
-    let mut tables = [[sets::NONE; 64]; 64];
     for i in 0..n {
         ranks[i as usize] = Rank::fresh(n, form, span, i, table);
         tables[i as usize] = table;
     }
-    (ranks, tables)
 }
 
-// The state of a refused start.
-fn empty_state() -> State
+// The state of a refused start, and of a refused run.
+pub fn empty_state() -> State
     ensures { result ≡ empty_state }
 {
     State {
@@ -88,25 +108,18 @@ fn empty_state() -> State
     }
 }
 
-// A group of n fresh ranks.
-fn fresh_state(n: u8, form: u8, span: u8) -> State
-    requires { misshapen n form span ≡ 0 }
-    ensures { result ≡ fresh_state (tree_of form span) n form span }
+// Seats a group of n fresh ranks, whose size, form and box size are right, in an empty state where it stands.
+pub fn seat(s: &mut State, n: u8, form: u8, span: u8)
+    requires shape { misshapen n form span ≡ 0 }
+    requires empty { s.old ≡ empty_state }
+    ensures { s.new ≡ fresh_state (tree_of form span) n form span }
 {
     let table = tree::fresh(n, form, span, 0);
-    let (ranks, tables) = first_seats(n, form, span, table);
-    State {
-        group: Group {
-            n,
-            form,
-            span,
-            count: 0,
-            dead: 0,
-            ranks,
-            net: [net::nothing(); 128],
-        },
-        tables,
-    }
+    s.group.n = n;
+    s.group.form = form;
+    s.group.span = span;
+    s.tables = [[sets::NONE; 64]; 64];
+    first_seats(n, form, span, table, &mut s.group.ranks, &mut s.tables);
 }
 
 // Entry point: a group of n fresh ranks in a form with a box size, all living, with nothing in flight. Refuses with 1, 50 or 51. It stays
@@ -115,11 +128,12 @@ fn fresh_state(n: u8, form: u8, span: u8) -> State
 pub fn start(n: u32, form: u32, span: u32) -> Result<State, Refused>
     ensures { told result ≡ started (tree_of form span) n form span }
 {
-    if let Err(refusal) = calls::misshapen(n, form, span) {
-        return Err(Refused {
-            refusal,
-            state: empty_state(),
-        });
+    let mut s = empty_state();
+    match calls::misshapen(n, form, span) {
+        Ok(()) => {
+            seat(&mut s, n as u8, form as u8, span as u8);
+            Ok(s)
+        }
+        Err(refusal) => Err(Refused { refusal, state: s }),
     }
-    Ok(fresh_state(n as u8, form as u8, span as u8))
 }

@@ -3,7 +3,7 @@
 
 ghost use Rattle.std.specs.Prelude.{◌++◌, ◌∷◌, [], ◌+◌, ◌*◌, ◌<◌, ◌≤◌, ℕ, length};
 ghost use Rattle.std.specs.Borrow.{MutBor};
-ghost use Rattle.text.specs.Text.{decimal, feed, field, lines};
+ghost use Rattle.text.specs.Text.{Wrote, decimal, feed, field, lines};
 ghost use Rattle.text.specs.Pages.{HasRoom, Lines, Puts};
 
 // A lent buffer, and the place in it where the next byte goes.
@@ -11,6 +11,22 @@ ghost use Rattle.text.specs.Pages.{HasRoom, Lines, Puts};
 pub struct Page<'a> {
     pub text: &'a mut [u8],
     pub at: usize,
+}
+
+// The other digits first, then the last; answers the place after it. On the buffer and a place by themselves, since a page would be read and stored
+// again at each digit.
+fn put_digits(text: &mut [u8], at: usize, x: u32) -> usize
+    requires { at + 10 ≤ length text.old }
+    ensures { Wrote text.old at (decimal x) text.new result }
+{
+    if x < 10 {
+        text[at] = b'0' + x as u8;
+        at + 1
+    } else {
+        let last = put_digits(text, at, x / 10);
+        text[last] = b'0' + (x % 10) as u8;
+        last + 1
+    }
 }
 
 impl<'a> Page<'a> {
@@ -33,16 +49,13 @@ impl<'a> Page<'a> {
         self.at = end;
     }
 
-    // The other digits first, then the last. The formatter's contracts say what a write that succeeds has written, and not that it succeeds,
-    // so that no number that it prints could be promised here.
+    // The formatter's contracts say what a write that succeeds has written, and not that it succeeds, so that no number that it prints could be
+    // promised here.
     pub fn put_number(&mut self, x: u32)
         requires { HasRoom self.old 10 }
         ensures { Puts self.old (decimal x) self.new }
     {
-        if x >= 10 {
-            self.put_number(x / 10);
-        }
-        self.put_byte(b'0' + (x % 10) as u8);
+        self.at = put_digits(&mut *self.text, self.at, x);
     }
 
     // One space, and the number.

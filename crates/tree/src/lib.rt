@@ -217,7 +217,8 @@ impl View {
         requires { p < 64 }
         ensures { result ≡ children (tree_of self.form self.span) self.n self.marks p }
     {
-        sets::minus(sets::places(self.table, p), self.marks)
+        let table = self.table;
+        sets::minus(sets::places(table, p), self.marks)
     }
 
     // The table once q is marked: the links that ended at q end at its heir, its parent or, where it had none, the lowest unmarked rank.
@@ -226,15 +227,17 @@ impl View {
         requires after_value { after ≡ add self.marks q }
         ensures { result ≡ fresh (tree_of self.form self.span) self.n after }
     {
-        let up = self.table[q as usize];
+        let table = self.table;
+        let up = table[q as usize];
         if up != sets::NONE {
-            return hand_over(self.table, q, |_| up);
+            return hand_over(table, q, |_| up);
         }
         let low = sets::smallest(sets::minus(sets::below(64), after)).unwrap_or(sets::NONE);
-        hand_over(self.table, q, |p| led(low, p))
+        hand_over(table, q, |p| led(low, p))
     }
 
     // Marks q and mends the table: only entries that pointed at q change.
+    #[inline(always)]
     pub fn mend(self, q: u8) -> Mended
         requires { q < self.n }
         ensures { result ≡ mended (tree_of self.form self.span) self.n self.marks q }

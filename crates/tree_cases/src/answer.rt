@@ -4,7 +4,7 @@
 //   who N FORM BOX MARKS RANK T0 .. T63
 // It prints `climb NUMBER RANK LINKS`, `mark NUMBER MARKS COUNT T0 .. T63`, or for a mark asked who moved `who NUMBER COUNT RANKS`.
 use answers::Refusal;
-use calls::{Climbed, NotClimbed};
+use calls::{Climbed, NotClimbed, NotMarked};
 use reader::Reader;
 use std::io;
 use std::io::Write;
@@ -58,7 +58,7 @@ fn entries<W: Write>(out: &mut W, table: [u8; 64]) -> io::Result<()> {
     Ok(())
 }
 
-fn mark(numbers: [u64; 69]) -> Result<Mended, Refusal> {
+fn mark(numbers: [u64; 69]) -> Result<Mended, NotMarked> {
     calls::mark(
         small(numbers[0]),
         small(numbers[1]),
@@ -69,33 +69,33 @@ fn mark(numbers: [u64; 69]) -> Result<Mended, Refusal> {
     )
 }
 
-// A refused mark leaves the view as it was handed in.
-fn marked<W: Write>(out: &mut W, numbers: [u64; 69]) -> io::Result<()> {
-    match mark(numbers) {
+// A refused mark hands the view back.
+fn marked<W: Write>(out: &mut W, reply: Result<Mended, NotMarked>) -> io::Result<()> {
+    match reply {
         Ok(m) => {
             write!(out, "mark 0 {} {}", m.marks, m.moved.count)?;
             entries(out, m.table)?;
         }
-        Err(refusal) => {
-            write!(out, "mark {} {} 0", refusal.number(), numbers[3])?;
-            entries(out, table_of(numbers))?;
+        Err(r) => {
+            write!(out, "mark {} {} 0", r.refusal.number(), r.marks)?;
+            entries(out, r.table)?;
         }
     }
     writeln!(out)
 }
 
-fn who<W: Write>(out: &mut W, numbers: [u64; 69]) -> io::Result<()> {
-    match mark(numbers) {
+fn who<W: Write>(out: &mut W, reply: Result<Mended, NotMarked>) -> io::Result<()> {
+    match reply {
         Ok(m) => writeln!(out, "who 0 {} {}", m.moved.count, m.moved.ranks),
-        Err(refusal) => writeln!(out, "who {} 0 0", refusal.number()),
+        Err(r) => writeln!(out, "who {} 0 0", r.refusal.number()),
     }
 }
 
 pub fn answer<W: Write>(out: &mut W, line: Line) -> io::Result<()> {
     match line.letter {
         b'c' => climb(out, line.numbers),
-        b'm' => marked(out, line.numbers),
-        b'w' => who(out, line.numbers),
+        b'm' => marked(out, mark(line.numbers)),
+        b'w' => who(out, mark(line.numbers)),
         _ => Ok(()),
     }
 }

@@ -24,6 +24,7 @@ use Rattle.tree.specs.Calls.{mended, same}
 use Rattle.tree.specs.declared.Mended.{Mended}
 use Rattle.tree.proofs.Laws.Mending.{mended-marks, mended-fresh, mended-moved}
 use Rattle.calls.specs.Calls.{Marked, misshapen, wrong_view, mark_refused, mark_told, marked, Told, told, named, climbing, climbed}
+use Rattle.calls.specs.declared.NotMarked.{NotMarked}
 use Rattle.calls.specs.declared.NotClimbed.TheVariants.{Refused, FromMarked}
 use Rattle.calls.proofs.Laws.Shapes.{Shapely, shape_right}
 
@@ -34,23 +35,28 @@ passed_on {E = E} (Err x) e h = ap (λ (y : E). Err y) h
 
 -- ---- mark
 
-pub mark-misshapen : (n form span marks : ℕ) (t : List ℕ) (q : ℕ) (e : Refusal) → number e ≡ misshapen n form span → mark_told marks t (Err e) ≡ marked n form span marks t q
+-- a refusal of the view with this table
+abbrev pub refused : Refusal → ℕ → List ℕ → NotMarked
+refused e marks t = record { refusal = e; marks = marks; table = t }
+
+pub mark-misshapen : (n form span marks : ℕ) (t : List ℕ) (q : ℕ) (e : Refusal) (r : NotMarked) → number e ≡ misshapen n form span → r ≡ refused e marks t → mark_told (Err r) ≡ marked n form span marks t q
 unfolding mark_told marked
-mark-misshapen n form span marks t q e i = rw (sym i, number-not_0 e)
+mark-misshapen n form span marks t q e r i s = rw (s, sym i, number-not_0 e)
 
-pub mark-outside : (n form span marks : ℕ) (t : List ℕ) (q u o : ℕ) → misshapen n form span ≡ 0 → u ≡ below n → o ≡ minus marks u → (o ≡ 0 → ⊥) → mark_told marks t (Err NotInOrder) ≡ marked n form span marks t q
+pub mark-outside : (n form span marks : ℕ) (t : List ℕ) (q u o : ℕ) (r : NotMarked) → misshapen n form span ≡ 0 → u ≡ below n → o ≡ minus marks u → (o ≡ 0 → ⊥) → r ≡ refused NotInOrder marks t
+    → mark_told (Err r) ≡ marked n form span marks t q
 unfolding mark_told marked wrong_view
-mark-outside n form span marks t q u o e g h d =
+mark-outside n form span marks t q u o r e g h d s =
     let z : eqb (minus marks (below n)) 0 ≡ false = ne_eqb (minus marks (below n)) 0 (λ x. d (h ∙ ap (minus marks) g ∙ x)) in
-    rw (e, z)
+    rw (s, e, z)
 
-pub mark_stale : (n form span marks : ℕ) (t : List ℕ) (q u o : ℕ) (w : List ℕ) (k : Bool) → misshapen n form span ≡ 0 → u ≡ below n → o ≡ minus marks u → o ≡ 0 → w ≡ fresh (tree_of form span) n marks → k ≡ same t w → k ≡ false
-    → mark_told marks t (Err NotInOrder) ≡ marked n form span marks t q
+pub mark_stale : (n form span marks : ℕ) (t : List ℕ) (q u o : ℕ) (w : List ℕ) (k : Bool) (r : NotMarked) → misshapen n form span ≡ 0 → u ≡ below n → o ≡ minus marks u → o ≡ 0 → w ≡ fresh (tree_of form span) n marks → k ≡ same t w → k ≡ false
+    → r ≡ refused NotInOrder marks t → mark_told (Err r) ≡ marked n form span marks t q
 unfolding mark_told marked wrong_view
-mark_stale n form span marks t q u o w k e g h d i j l =
+mark_stale n form span marks t q u o w k r e g h d i j l s =
     let z : eqb (minus marks (below n)) 0 ≡ true = eq-eqb (minus marks (below n)) 0 (sym (h ∙ ap (minus marks) g) ∙ d) in
     let y : same t (fresh (tree_of form span) n marks) ≡ false = sym (j ∙ ap (same t) i) ∙ l in
-    rw (e, z, y)
+    rw (s, e, z, y)
 
 -- what has been found once 2 does not apply
 fine : (n form span marks : ℕ) (t : List ℕ) (u o : ℕ) (w : List ℕ) (k : Bool) → u ≡ below n → o ≡ minus marks u → o ≡ 0 → w ≡ fresh (tree_of form span) n marks → k ≡ same t w → k ≡ true → wrong_view (tree_of form span) n marks t ≡ false
@@ -60,13 +66,13 @@ fine n form span marks t u o w k g h d i j l =
     let y : same t (fresh (tree_of form span) n marks) ≡ true = sym (j ∙ ap (same t) i) ∙ l in
     rw (z, y)
 
-pub mark_wrong_rank : (n form span marks : ℕ) (t : List ℕ) (q u o : ℕ) (w : List ℕ) (k : Bool) → misshapen n form span ≡ 0 → u ≡ below n → o ≡ minus marks u → o ≡ 0 → w ≡ fresh (tree_of form span) n marks → k ≡ same t w → k ≡ true → n ≤ q
-    → mark_told marks t (Err BadRank) ≡ marked n form span marks t q
+pub mark_wrong_rank : (n form span marks : ℕ) (t : List ℕ) (q u o : ℕ) (w : List ℕ) (k : Bool) (r : NotMarked) → misshapen n form span ≡ 0 → u ≡ below n → o ≡ minus marks u → o ≡ 0 → w ≡ fresh (tree_of form span) n marks → k ≡ same t w → k ≡ true → n ≤ q
+    → r ≡ refused BadRank marks t → mark_told (Err r) ≡ marked n form span marks t q
 unfolding mark_told marked
-mark_wrong_rank n form span marks t q u o w k e g h d i j l m = rw (e, fine n form span marks t u o w k g h d i j l, le-ltb q n m)
+mark_wrong_rank n form span marks t q u o w k r e g h d i j l m s = rw (s, e, fine n form span marks t u o w k g h d i j l, le-ltb q n m)
 
 pub mark-accepted : (n form span marks : ℕ) (t : List ℕ) (q u o : ℕ) (w : List ℕ) (k : Bool) (r : Mended) → misshapen n form span ≡ 0 → u ≡ below n → o ≡ minus marks u → o ≡ 0
-    → w ≡ fresh (tree_of form span) n marks → k ≡ same t w → k ≡ true → q < n → r ≡ mended (tree_of form span) n marks q → mark_told marks t (Ok r) ≡ marked n form span marks t q
+    → w ≡ fresh (tree_of form span) n marks → k ≡ same t w → k ≡ true → q < n → r ≡ mended (tree_of form span) n marks q → mark_told (Ok r) ≡ marked n form span marks t q
 unfolding mark_told marked
 mark-accepted n form span marks t q u o w k r e g h d i j l m s =
     let a = mended-marks (tree_of form span) n marks q r s in
@@ -74,12 +80,16 @@ mark-accepted n form span marks t q u o w k r e g h d i j l m s =
     rw (e, fine n form span marks t u o w k g h d i j l, lt-ltb q n m, a, b, mended-moved (tree_of form span) n marks q r s)
 
 -- a reply is determined by what is told
-pub mark_told_determines : (marks : ℕ) (t : List ℕ) (a b : Result Mended Refusal) → mark_told marks t a ≡ mark_told marks t b → a ≡ b
+pub mark_told_determines : (a b : Result Mended NotMarked) → mark_told a ≡ mark_told b → a ≡ b
 unfolding mark_told mark_refused
-mark_told_determines marks t (Ok m) (Ok o) e = ap (λ (x : Marked). Ok (record { marks = x.marks; table = x.table; moved = x.moved })) e
-mark_told_determines marks t (Ok m) (Err y) e = absurd (clash (eqb (number y) 0) (eq-eqb (number y) 0 (sym (ap (λ (x : Marked). x.answer) e))) (number-not_0 y))
-mark_told_determines marks t (Err x) (Ok o) e = absurd (clash (eqb (number x) 0) (eq-eqb (number x) 0 (ap (λ (x : Marked). x.answer) e)) (number-not_0 x))
-mark_told_determines marks t (Err x) (Err y) e = ap (λ (z : Refusal). Err z) (number-one_to_one x y (ap (λ (x : Marked). x.answer) e))
+mark_told_determines (Ok m) (Ok o) e = ap (λ (x : Marked). Ok (record { marks = x.marks; table = x.table; moved = x.moved })) e
+mark_told_determines (Ok m) (Err y) e = absurd (clash (eqb (number y.refusal) 0) (eq-eqb (number y.refusal) 0 (sym (ap (λ (x : Marked). x.answer) e))) (number-not_0 y.refusal))
+mark_told_determines (Err x) (Ok o) e = absurd (clash (eqb (number x.refusal) 0) (eq-eqb (number x.refusal) 0 (ap (λ (x : Marked). x.answer) e)) (number-not_0 x.refusal))
+mark_told_determines (Err x) (Err y) e =
+    let r : x.refusal ≡ y.refusal = number-one_to_one x.refusal y.refusal (ap (λ (z : Marked). z.answer) e) in
+    let m : x.marks ≡ y.marks = ap (λ (z : Marked). z.marks) e in
+    let t : x.table ≡ y.table = ap (λ (z : Marked). z.table) e in
+    ap (λ (z : NotMarked). Err z) (rw (r, m, t))
 
 -- ---- climb
 

@@ -12,7 +12,7 @@ use Rattle.sets.proofs.Laws.Bools.{clash}
 use Rattle.answers.specs.declared.Refusal.{Refusal}
 use Rattle.answers.specs.Answers.{number, answer_of}
 use Rattle.answers.proofs.Laws.Numbers.{number-not_0, number-one_to_one}
-use Rattle.answers.specs.Refusals.{accepted, bad_size, bad_box, bad_form}
+use Rattle.answers.specs.Refusals.{accepted, bad_size, dead_rank, too_short, bad_box, bad_form}
 use Rattle.tree.specs.Forms.{flat_form}
 use Rattle.tree.specs.Calls.{wrong_size}
 use Rattle.tree.proofs.Laws.Calls.{size_none, size-le, size_pos, size_right}
@@ -39,6 +39,17 @@ shapely n form span = go (wrong_size n) (wrong_size span) (ltb 2 form) refl refl
 pub shape_right : (n form span : ℕ) → Shapely n form span → misshapen n form span ≡ 0
 unfolding misshapen
 shape_right n form span s = rw (size_right n s.some s.small, size_right span s.boxed s.box_small, le-ltb 2 form s.known)
+
+-- no refusal of these names a rank: it is 1, 50 or 51, and neither 6 nor 12
+pub shape_numbers : (n form span : ℕ) → (misshapen n form span ≡ dead_rank → ⊥) × (misshapen n form span ≡ too_short → ⊥)
+unfolding misshapen
+shape_numbers n form span = go (wrong_size n) (wrong_size span) (ltb 2 form)
+  where
+    go : (a b c : Bool) → (cond a bad_size (cond b bad_box (cond c bad_form accepted)) ≡ dead_rank → ⊥) × (cond a bad_size (cond b bad_box (cond c bad_form accepted)) ≡ too_short → ⊥)
+    go true b c = (λ e. omega arith, λ e. omega arith)
+    go false true c = (λ e. omega arith, λ e. omega arith)
+    go false false true = (λ e. omega arith, λ e. omega arith)
+    go false false false = (λ e. omega arith, λ e. omega arith)
 
 -- a group of none is refused with 1
 pub shape-none : (form span : ℕ) → misshapen 0 form span ≡ 1

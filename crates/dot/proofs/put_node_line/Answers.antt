@@ -10,7 +10,7 @@ pub returns-then-member : goal.returns-then-member
 returns-then-member c = search node_marked
 
 pub put_letters-requires : goal.put_letters-requires
-put_letters-requires c = room_after 10 14 c.put_number.ensures (length-decimal _) c.requires.page_in_bounds
+put_letters-requires c = omega (arith, room_after 10 14 c.put_number.ensures (length-decimal _) c.requires.page_in_bounds)
 
 pub put_letters-requires-else-is_root : goal.put_letters-requires-else-is_root
 put_letters-requires-else-is_root c = omega (arith, room_after 10 14 c.put_number.ensures (length-decimal _) c.requires.page_in_bounds)

@@ -33,7 +33,7 @@ use Rattle.order.specs.Between.{InOrder}
 use Rattle.order.proofs.Laws.Ordering.{in_order_facts, facts_in_order}
 use Rattle.plans.specs.Plans.{Planned}
 use Rattle.plans.proofs.Laws.Acting.{Outcome, acting_outcome}
-use Rattle.group.specs.Events.{Stepped, posted, applied, refused, carried, subject_of, plan_of, stepped}
+use Rattle.group.specs.Events.{Stepped, posted, applied, carried, subject_of, plan_of, stepped}
 use Rattle.group.proofs.Laws.Stepping.{Taken, plan_taken, subject-named, subject_receives, subject_in}
 
 -- ---- an accepted event

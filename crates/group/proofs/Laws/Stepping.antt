@@ -2,7 +2,7 @@
 -- Assumes nothing.
 use mathlib.Core.Path.{◌≡◌, refl, sym, ap, subst, ◌∙◌}
 use mathlib.Core.Bool.{true, false, cond}
-use mathlib.Core.List.{List, []}
+use mathlib.Core.List.{List, [], append-nil}
 use mathlib.Core.Logic.{◌⊎◌, inl, inr, ⊎_elim}
 use Prim.Native.Nat.{ℕ, ◌+◌, ◌≤◌, ◌<◌}
 use native.Mathlib.Omega.{arith}
@@ -19,6 +19,8 @@ use Rattle.tree.specs.Tree.{nobody}
 use Rattle.rank.specs.declared.Rank.{Rank}
 use Rattle.rank.specs.declared.Message.{Message}
 use Rattle.rank.specs.Between.{FreshRow}
+use Rattle.rank.specs.Sends.{silent}
+use Rattle.rank.proofs.Laws.Letters.{letters-silent}
 use Rattle.net.specs.Net.{in_flight, zero_message, padded}
 use Rattle.events.specs.declared.Event.{Event}
 use Rattle.events.specs.Events.{names_place}
@@ -28,6 +30,7 @@ use Rattle.order.proofs.Facts.{InOrderFacts}
 use Rattle.order.specs.Between.{InOrder}
 use Rattle.order.proofs.Laws.Ordering.{in_order_facts, places-held}
 use Rattle.plans.specs.declared.Plan.{Plan}
+use Rattle.plans.specs.declared.NotPlanned.{NotPlanned}
 use Rattle.plans.specs.Plans.{Planned, subject, refusing, planned, as_planned, told}
 use Rattle.plans.specs.Between.{FreshSubject}
 use Rattle.refusals.proofs.Laws.Refusing.{clean_place}
@@ -128,9 +131,9 @@ step_count anc s o = (in_order_facts anc s o).count-le
 
 -- ---- what comes of it
 
-pub plan_is : (anc : ℕ → ℕ) (s : State) (ev : Event) (m : Message) (me : ℕ) (x : Result Plan Refusal) → m ≡ get_or s.group.net ev.a zero_message → me ≡ subject s.group.n ev m
-    → told (rank_at s me) (row_at s me) x ≡ planned anc s.group.n s.group.dead s.group.count ev m me (rank_at s me) (row_at s me)
-    → told (rank_at s (subject_of s ev)) (row_at s (subject_of s ev)) x ≡ plan_of anc s ev
+pub plan_is : (anc : ℕ → ℕ) (s : State) (ev : Event) (m : Message) (me : ℕ) (x : Result Plan NotPlanned) → m ≡ get_or s.group.net ev.a zero_message → me ≡ subject s.group.n ev m
+    → told x ≡ planned anc s.group.n s.group.dead s.group.count ev m me (rank_at s me) (row_at s me)
+    → told x ≡ plan_of anc s ev
 unfolding plan_of subject_of
 plan_is anc s ev m me x e g q = rw (g, e) at q
 
@@ -150,6 +153,11 @@ step_carriable anc s ev p me o e z g =
       room = x.room;
       own = omega (arith, subject_in anc s f ev, f.shape.small);
     }
+
+-- where nothing leaves and nothing is sent the list stays
+pub posted_nothing : (l : List Message) (place me : ℕ) (p : Planned) → p.leaves ≡ false → p.acted.first ≡ silent → p.acted.second ≡ silent → l ≡ posted l place me p
+unfolding posted
+posted_nothing l place me p e f g = rw (e, f, g, letters-silent me, append-nil l, append-nil l) refl
 
 -- l is the list that flies once the plan is carried out
 pub carry-applied : (s : State) (place me : ℕ) (p : Planned) (l : List Message) (d : ℕ) → l ≡ posted (flying s) place me p → d ≡ cond p.dies (add s.group.dead me) s.group.dead
@@ -172,7 +180,7 @@ step_carries anc s ev p me x y u e z g ex ey eu = rw (← e, ← g, eq-eqb p.ans
 pub step-refused : (anc : ℕ → ℕ) (s : State) (ev : Event) (m : Message) (me : ℕ) (e : Refusal) → m ≡ get_or s.group.net ev.a zero_message → me ≡ subject s.group.n ev m
     → refusing (number e) (rank_at s me) (row_at s me) ≡ planned anc s.group.n s.group.dead s.group.count ev m me (rank_at s me) (row_at s me)
     → ◌≡◌ {A = Stepped} (record { answer = number e; sent = 0; moved = nobody; state = s }) (stepped anc s ev)
-step-refused anc s ev m me e em eg q = step-refuses anc s ev e _ _ (plan_is anc s ev m me (Err e) em eg q)
+step-refused anc s ev m me e em eg q = step-refuses anc s ev e _ _ (plan_is anc s ev m me (Err (record { refusal = e; rank = rank_at s me; row = row_at s me })) em eg q)
 
 pub step-accepted : (anc : ℕ → ℕ) (s : State) (ev : Event) (m : Message) (me : ℕ) (p : Plan) (l : List Message) (d x y : ℕ) → m ≡ get_or s.group.net ev.a zero_message → me ≡ subject s.group.n ev m
     → as_planned p ≡ planned anc s.group.n s.group.dead s.group.count ev m me (rank_at s me) (row_at s me)

@@ -1,17 +1,17 @@
 -- Messages as numbers: what an array of them holds, place by place, and the list's laws read off it. Assumes nothing.
-use mathlib.Core.Path.{◌≡◌, sym, ap, ap₂, subst, ◌∙◌}
+use mathlib.Core.Path.{◌≡◌, refl, sym, ap, ap₂, subst, ◌∙◌}
 use mathlib.Core.List.{List, [], ◌∷◌, ◌++◌}
 use mathlib.Core.Logic.{⊎_elim}
-use Prim.Native.Nat.{ℕ, ◌+◌, ◌*◌, ◌/◌, ◌%◌, ◌^◌, ◌≤◌, ◌<◌}
+use Prim.Native.Nat.{ℕ, zero, suc, ◌+◌, ◌*◌, ◌/◌, ◌%◌, ◌^◌, ◌≤◌, ◌<◌}
 use native.Mathlib.Nat.{le_dest}
 use native.Mathlib.Omega.{arith}
 use native.Mathlib.Numerals.{add-one}
-use lib.ListN.{length, get_or, set, take, length-set}
+use lib.ListN.{length, get_or, set, take, replicate, length-set, length-replicate, get_or-eq_default}
 use lib.Seq.{length-take-le, ext_get_or, get_or-set_same, get_or-set_other, get_or-take, take-suc, take-suc-set}
 use Rattle.sets.proofs.Laws.Bools.{lt-or-le, eq_or_ne}
-use Rattle.tree.proofs.Laws.Rows.{row_is, length-row, get_d_row}
+use Rattle.tree.proofs.Laws.Rows.{row_is, row_cong, row_replicate, length-row, get_d_row}
 use Rattle.rank.specs.declared.Message.{Message}
-use Rattle.net.specs.Net.{in_flight, zero_message, message_of, messages_of}
+use Rattle.net.specs.Net.{zero_message, padded, message_of, messages_of, Small}
 
 -- ---- what three numbers put at a place do to the list
 
@@ -81,6 +81,42 @@ number_is m r k f t w e = λ i. record { kind = kind_is i; from = from_is i; to 
     word_is : r / 16777216 % 4294967296 ≡ m.triple.word
     word_is = omega arith
 
+-- and it is small
+pub number_small : (k f t w r : ℕ) → k < 256 → f < 256 → t < 256 → w < 4294967296 → r ≡ k + 256 * f + 65536 * t + 16777216 * w → r < 2 ^ 56
+number_small k f t w r a b c d e = omega arith
+
+-- ---- small numbers
+
+-- a number below a bound is put somewhere, and what stands at k is below it
+below_set : (x : List ℕ) (i v k bound : ℕ) → 0 < bound → v < bound → get_or x k 0 < bound → get_or (set x i v) k 0 < bound
+below_set x i v k bound z l h = ⊎_elim here (λ (d : k ≡ i → ⊥). subst (λ (y : ℕ). y < bound) (sym (get_or-set_other x i k v 0 d)) h) (eq_or_ne k i)
+  where
+    here : k ≡ i → get_or (set x i v) k 0 < bound
+    here e = ⊎_elim
+        (λ (b : i < length x). subst (λ (y : ℕ). y < bound) (sym (ap (λ (j : ℕ). get_or (set x i v) j 0) e ∙ get_or-set_same x i v 0 b)) l)
+        (λ (b : length x ≤ i). subst (λ (y : ℕ). y < bound) (sym (get_or-eq_default (set x i v) 0 (let c : length (set x i v) ≤ k = omega (arith, length-set x i v) in c))) z)
+        (lt-or-le i (length x))
+
+zeros_at : (m i : ℕ) → ◌≡◌ {A = ℕ} (get_or (replicate m 0) i 0) 0
+zeros_at zero i = refl
+zeros_at (suc m) zero = refl
+zeros_at (suc m) (suc i) = zeros_at m i
+
+pub small_zeros : Small (replicate 384 0)
+small_zeros = record { long = length-replicate {A = ℕ} 384 0; first = λ i l. omega (arith, zeros_at 384 i); bound = λ i. omega (arith, zeros_at 384 i) }
+
+pub small-three : (x : List ℕ) (i a b c : ℕ) → i < 128 → a < 2 ^ 56 → b < 2 ^ 64 → c < 2 ^ 64 → Small x → Small (three x i a b c)
+small-three x i a b c l la lb lc h = record {
+  long = length-set (set (set x i a) (128 + i) b) (256 + i) c ∙ length-set (set x i a) (128 + i) b ∙ length-set x i a ∙ h.long;
+  first = λ k d. subst (λ (y : ℕ). y < 2 ^ 56) (sym (get_or-set_other (set (set x i a) (128 + i) b) (256 + i) k c 0 (λ e. omega arith) ∙ get_or-set_other (set x i a) (128 + i) k b 0 (λ e. omega arith))) (below_set x i a k (2 ^ 56) (omega arith) la (h.first k d));
+  bound = λ k. below_set (set (set x i a) (128 + i) b) (256 + i) c k (2 ^ 64) (omega arith) lc (below_set (set x i a) (128 + i) b k (2 ^ 64) (omega arith) lb (below_set x i a k (2 ^ 64) (omega arith) (omega arith) (h.bound k)));
+}
+
+-- zeros hold no message
+pub messages_zeros : messages_of (replicate 384 0) ≡ padded []
+unfolding messages_of message_of padded
+messages_zeros = sym (row_replicate 128 zero_message zero_message ∙ row_cong zero_message (λ k. zero_message) (λ i. message_of (get_or (replicate 384 0) i 0) (get_or (replicate 384 0) (128 + i) 0) (get_or (replicate 384 0) (256 + i) 0)) 128 (λ k l. rw (zeros_at 384 k, zeros_at 384 (128 + k), zeros_at 384 (256 + k))))
+
 -- ---- along the code of `pull`: the second and third number are read once the ones before them are written
 
 pub pull-three : (x : List ℕ) (i b c : ℕ) → i + 1 < 128 → length x ≡ 384 → b ≡ get_or (set x i (get_or x (i + 1) 0)) (128 + (i + 1)) 0 → c ≡ get_or (set (set x i (get_or x (i + 1) 0)) (128 + i) b) (256 + (i + 1)) 0
@@ -102,12 +138,6 @@ spread a l =
     let i : a / 256 ≡ a / 256 % 256 + 256 * (a / 65536) = omega arith in
     let j : a ≡ a % 256 + 256 * (a / 256) = omega arith in
     omega arith
-
--- There are 384 of them, of eight bytes, and the first of a message has seven.
-pub record Small (numbers : List ℕ) : Type 0 where
-  pub long : length numbers ≡ 3 * in_flight
-  pub first : (i : ℕ) → i < in_flight → get_or numbers i 0 < 2 ^ 56
-  pub bound : (i : ℕ) → get_or numbers i 0 < 2 ^ 64
 
 same_number : (a b k l m n : ℕ) → a < 2 ^ 56 → b < 2 ^ 56 → message_of a k l ≡ message_of b m n → (a ≡ b) × (k ≡ m) × (l ≡ n)
 unfolding message_of

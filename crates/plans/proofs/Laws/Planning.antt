@@ -1,13 +1,16 @@
 -- Planning along its code: what an event has its rank do, and whether there is room. Assumes nothing.
 use mathlib.Core.Path.{◌≡◌, refl, sym, ap, ◌∙◌}
-use mathlib.Core.Bool.{Bool, true, false, cond}
+use mathlib.Core.Bool.{Bool, true, false, cond, ◌&&◌}
 use mathlib.Core.List.{List}
 use mathlib.Core.Logic.{◌⊎◌, inl, inr}
-use Prim.Native.Nat.{ℕ, ◌≤◌, ◌<◌}
+use Prim.Native.Nat.{ℕ, ◌+◌, ◌-◌, ◌≤◌, ◌<◌}
+use native.Mathlib.Omega.{arith}
 use lib.Dec.{eqb, ltb}
-use borrow.Author.Tests.{eq-eqb, ne_eqb, lt-ltb, le-ltb}
+use lib.ListN.{length}
+use borrow.Author.Tests.{eq-eqb, eqb-true, ne_eqb, lt-ltb, le-ltb}
 use Rattle.std.specs.Prelude.{Result, Ok, Err}
-use Rattle.sets.proofs.Laws.Bools.{lt-or-le, clash}
+use Rattle.sets.specs.Sets.{has}
+use Rattle.sets.proofs.Laws.Bools.{lt-or-le, clash, and_l, and_r}
 use Rattle.answers.specs.declared.Refusal.{Refusal}
 use Rattle.answers.specs.Answers.{number}
 use Rattle.answers.proofs.Laws.Numbers.{number-one_to_one, number-not_0}
@@ -15,11 +18,19 @@ use Rattle.rank.specs.declared.Rank.{Rank}
 use Rattle.rank.specs.declared.Message.{Message}
 use Rattle.rank.specs.declared.Acted.{Acted}
 use Rattle.rank.specs.Rules.{entering, noticing, acknowledging}
+use Rattle.rank.proofs.Laws.Letters.{length-letters, letters-silent}
+use Rattle.rank.proofs.Laws.Knowing.{notice_known}
+use Rattle.tree.specs.Tree.{fresh}
+use Rattle.rank.specs.Sends.{silent, size}
 use Rattle.events.specs.declared.Event.{Event}
 use Rattle.events.specs.Events.{names_place}
 use Rattle.refusals.specs.Refusing.{refusal}
 use Rattle.plans.specs.declared.Plan.{Plan}
-use Rattle.plans.specs.Plans.{Planned, idle, subject, delivered, acting, refusing, planned, as_planned, told}
+use Rattle.plans.specs.declared.NotPlanned.{NotPlanned}
+use Rattle.plans.specs.Plans.{Planned, idle, subject, delivered, acting, refusing, accepting, afterwards, fitting, planned, as_planned, told}
+
+pub silent_size : size silent ≡ 0
+silent_size = sym (length-letters 0 silent) ∙ ap length (letters-silent 0)
 
 -- ---- the subject
 
@@ -71,9 +82,33 @@ module _ (anc : ℕ → ℕ) (n dead : ℕ) where
   unfolding planned
   plan_refused c ev m me r row e h = rw (← h, number-not_0 e)
 
+  -- a death that is known changes nothing
+  pub known_plan : (c : ℕ) (ev : Event) (m : Message) (me : ℕ) (r : Rank) (row : List ℕ) → refusal n dead c ev r m ≡ 0 → (eqb ev.kind 4 && has r.marks ev.b) ≡ true → c ≤ 128 → row ≡ fresh anc n r.marks
+      → as_planned (record { leaves = false; dies = false; acted = idle r row }) ≡ planned anc n dead c ev m me r row
+  unfolding planned fitting afterwards accepting acting
+  known_plan c ev m me r row z k b t =
+      let kind : ev.kind ≡ 4 = eqb-true ev.kind 4 (and_l (eqb ev.kind 4) (has r.marks ev.b) k) in
+      let marked : has r.marks ev.b ≡ true = and_r (eqb ev.kind 4) (has r.marks ev.b) k in
+      let room : ltb 128 (c + size silent + size silent - 0) ≡ false = le-ltb 128 (c + size silent + size silent - 0) (omega (arith, silent_size, b)) in
+      rw (z, kind, sym (notice_known anc n me ev.b r row marked t), room) refl
+
+  -- a draft that has room is the plan, and one that has none is refused with 11
+  module _ (c : ℕ) (ev : Event) (m : Message) (me : ℕ) (r : Rank) (row : List ℕ) (p : Plan) (x : ℕ) (clean : refusal n dead c ev r m ≡ 0) (drafted : as_planned p ≡ accepting ev (acting anc n dead ev m me r row)) (sum : x ≡ c + size p.acted.first + size p.acted.second - cond p.leaves 1 0) where
+    then_flying : x ≡ afterwards c ev (acting anc n dead ev m me r row)
+    unfolding afterwards accepting
+    then_flying = sum ∙ ap (λ (y : Planned). c + size y.acted.first + size y.acted.second - cond y.leaves 1 0) drafted
+
+    pub draft_fits : x ≤ 128 → as_planned p ≡ planned anc n dead c ev m me r row
+    unfolding planned fitting
+    draft_fits l = rw (clean, sym (ap (ltb 128) then_flying) ∙ le-ltb 128 x l) drafted
+
+    pub draft_full : 128 < x → refusing 11 r row ≡ planned anc n dead c ev m me r row
+    unfolding planned fitting
+    draft_full l = rw (clean, sym (ap (ltb 128) then_flying) ∙ lt-ltb 128 x l) refl
+
 -- ---- what is told of an answer says which answer it is
 
-same_plan : (p q : Plan) → as_planned p ≡ as_planned q → p ≡ q
+pub same_plan : (p q : Plan) → as_planned p ≡ as_planned q → p ≡ q
 same_plan p q e = λ i. record { leaves = (e i).leaves; dies = (e i).dies; acted = (e i).acted }
 
 refuses : (r : Rank) (row : List ℕ) (p : Plan) (e : Refusal) → as_planned p ≡ refusing (number e) r row → ⊥
@@ -84,9 +119,13 @@ pub refusing-answer : (a : ℕ) (r : Rank) (row : List ℕ) → (refusing a r ro
 unfolding refusing
 refusing-answer a r row = refl
 
-pub told_same : (r : Rank) (row : List ℕ) (x y : Result Plan Refusal) → told r row x ≡ told r row y → x ≡ y
+pub told_same : (x y : Result Plan NotPlanned) → told x ≡ told y → x ≡ y
 unfolding refusing
-told_same r row (Ok p) (Ok q) e = ap Ok (same_plan p q e)
-told_same r row (Ok p) (Err b) e = absurd (refuses r row p b e)
-told_same r row (Err a) (Ok q) e = absurd (refuses r row q a (sym e))
-told_same r row (Err a) (Err b) e = ap Err (number-one_to_one a b (ap (λ (x : Planned). x.answer) e))
+told_same (Ok p) (Ok q) e = ap Ok (same_plan p q e)
+told_same (Ok p) (Err b) e = absurd (refuses b.rank b.row p b.refusal e)
+told_same (Err a) (Ok q) e = absurd (refuses a.rank a.row q a.refusal (sym e))
+told_same (Err a) (Err b) e = λ i. Err (record {
+  refusal = number-one_to_one a.refusal b.refusal (ap (λ (x : Planned). x.answer) e) i;
+  rank = (e i).acted.rank;
+  row = (e i).acted.row;
+})

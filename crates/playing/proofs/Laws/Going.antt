@@ -1,22 +1,23 @@
 -- The loop along its code: the messages in flight are held beside the state, the events still to come stand as they did, and what is still to
 -- come has the same end. Assumes nothing.
 use mathlib.Core.Path.{◌≡◌, refl, sym, ap, ap₂, subst, ◌∙◌}
-use mathlib.Core.Bool.{cond}
+use mathlib.Core.Bool.{true, false, cond, ◌&&◌}
 use mathlib.Core.List.{List, []}
 use mathlib.Core.Logic.{inr}
 use Prim.Native.Nat.{ℕ, suc, ◌+◌, ◌*◌, ◌-◌, ◌≤◌, ◌<◌}
 use native.Mathlib.Omega.{arith}
 use lib.ListN.{length, get_or, set}
 use lib.Seq.{get_or-set_same, set-get_or, length-take-le}
-use Rattle.sets.specs.Sets.{add}
+use lib.Dec.{eqb}
+use Rattle.sets.specs.Sets.{add, has}
 use Rattle.answers.specs.declared.Refusal.{Refusal}
 use Rattle.answers.specs.Answers.{number}
-use Rattle.tree.specs.Tree.{fresh}
+use Rattle.tree.specs.Tree.{fresh, nobody}
 use Rattle.tree.specs.Forms.{tree_of}
 use Rattle.rank.specs.declared.Rank.{Rank}
 use Rattle.rank.specs.declared.Message.{Message}
 use Rattle.rank.specs.Between.{FreshRow}
-use Rattle.rank.specs.Sends.{size}
+use Rattle.rank.specs.Sends.{silent, size}
 use Rattle.net.specs.Net.{zero_message, padded}
 use Rattle.net.proofs.Laws.Net.{padded_at, padded-take}
 use Rattle.events.specs.declared.Event.{Event}
@@ -26,12 +27,12 @@ use Rattle.order.specs.Between.{InOrder}
 use Rattle.order.proofs.Laws.Ordering.{in_order_facts}
 use Rattle.refusals.specs.Refusing.{refusal}
 use Rattle.plans.specs.declared.Plan.{Plan}
-use Rattle.plans.specs.Plans.{subject, refusing, planned, as_planned}
-use Rattle.plans.proofs.Laws.Planning.{plan_refused}
+use Rattle.plans.specs.Plans.{subject, idle, refusing, planned, as_planned}
+use Rattle.plans.proofs.Laws.Planning.{plan_refused, known_plan, silent_size}
 use Rattle.plans.specs.Between.{FreshSubject}
 use Rattle.std.specs.Prelude.{Err}
 use Rattle.group.specs.Events.{Stepped, posted, refused, event}
-use Rattle.group.proofs.Laws.Stepping.{subject-below, step_seat, step_ready, step-held, step-refuses, step-accepted, plan_is}
+use Rattle.group.proofs.Laws.Stepping.{posted_nothing, subject-below, step_seat, step_ready, step-held, step-refuses, step-accepted, plan_is}
 use Rattle.group.proofs.Laws.Events.{event_steps_on}
 use Rattle.group.proofs.Laws.Moving.{event_keeps_order}
 use Rattle.group.proofs.Forms.{an_event_keeps_the_form}
@@ -59,13 +60,24 @@ module _ (anc : ℕ → ℕ) (s : State) (l : List Message) (ev : Event) (m : Me
   advance_ready = step_ready anc (listed s l) ev m me o em eg
 
   -- a refusal of the plan
-  pub advance_unplanned : (e : Refusal) → refusing (number e) (get_or s.group.ranks me zero_rank) (get_or s.tables me []) ≡ planned anc s.group.n s.group.dead (length l) ev m me (get_or s.group.ranks me zero_rank) (get_or s.tables me [])
+  pub advance_unplanned : (e : Refusal) (r : Rank) (row : List ℕ) → refusing (number e) r row ≡ planned anc s.group.n s.group.dead (length l) ev m me (get_or s.group.ranks me zero_rank) (get_or s.tables me [])
       → refused (number e) (listed s l) ≡ event anc (listed s l) ev
-  advance_unplanned e q = step-refuses anc (listed s l) ev e _ _ (plan_is anc (listed s l) ev m me (Err e) em eg q) ∙ sym (event_steps_on anc (listed s l) ev o)
+  advance_unplanned e r row q = step-refuses anc (listed s l) ev e _ _ (plan_is anc (listed s l) ev m me (Err (record { refusal = e; rank = r; row = row })) em eg q) ∙ sym (event_steps_on anc (listed s l) ev o)
 
   -- a refusal that comes before a plan
   pub advance_refused : (e : Refusal) → number e ≡ refusal s.group.n s.group.dead (length l) ev (get_or s.group.ranks me zero_rank) m → refused (number e) (listed s l) ≡ event anc (listed s l) ev
-  advance_refused e h = advance_unplanned e (plan_refused anc s.group.n s.group.dead (length l) ev m me _ _ e h)
+  advance_refused e h = advance_unplanned e _ _ (plan_refused anc s.group.n s.group.dead (length l) ev m me _ _ e h)
+
+  -- a death that is known leaves the state as it is
+  advance_still : (r : Rank) (row : List ℕ) → r ≡ get_or s.group.ranks me zero_rank → ◌≡◌ {A = Stepped}
+      (record {
+        answer = 0;
+        sent = 0;
+        moved = nobody;
+        state = joined (record { n = s.group.n; form = s.group.form; span = s.group.span; count = length l; dead = s.group.dead; ranks = set s.group.ranks me r; net = padded l }) s.tables;
+      })
+      (record { answer = 0; sent = 0; moved = nobody; state = listed s l })
+  advance_still r row e = rw (e, set-get_or s.group.ranks me zero_rank) refl
 
   pub advance_accepted : (p : Plan) (sent d : ℕ) (next : List Message) → as_planned p ≡ planned anc s.group.n s.group.dead (length l) ev m me (get_or s.group.ranks me zero_rank) (get_or s.tables me [])
       → sent ≡ size p.acted.first + size p.acted.second → next ≡ posted l ev.a me (as_planned p)
@@ -113,6 +125,17 @@ module _ (anc : ℕ → ℕ) (s : State) (l : List Message) (ev : Event) (m : Me
       })
       same)
       ∙ done
+
+  -- A death that is known changes nothing.
+  pub advance_known : (eqb ev.kind 4 && has (get_or s.group.ranks me zero_rank).marks ev.b) ≡ true → refusal s.group.n s.group.dead (length l) ev (get_or s.group.ranks me zero_rank) m ≡ 0
+      → ◌≡◌ {A = Stepped} (record { answer = 0; sent = 0; moved = nobody; state = listed s l }) (event anc (listed s l) ev)
+  advance_known k z =
+      let r : Rank = get_or s.group.ranks me zero_rank in
+      let row : List ℕ = get_or s.tables me [] in
+      let p : Plan = record { leaves = false; dies = false; acted = idle r row } in
+      let q = known_plan anc s.group.n s.group.dead (length l) ev m me r row z k (in_order_facts anc (listed s l) o).count-le advance_seat.table in
+      let none : 0 ≡ size silent + size silent = omega (arith, silent_size) in
+      sym (advance_still r row refl) ∙ advance_marks p 0 s.group.dead l q none (posted_nothing l ev.a me (as_planned p) refl refl refl) refl refl
 
 -- ---- events one after the other
 

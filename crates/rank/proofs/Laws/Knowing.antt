@@ -2,6 +2,7 @@
 -- every rank below its sender; the other rules mark none and move nothing. To acknowledge is a rule of its own; no other touches the acknowledged set. Over any ancestor sets, of any rank. Assumes nothing.
 use mathlib.Core.Path.{◌≡◌, refl, sym, ◌∙◌}
 use mathlib.Core.Bool.{true, false}
+use mathlib.Core.List.{List}
 use mathlib.Core.Logic.{⊎_elim}
 use Prim.Native.Nat.{ℕ}
 use Rattle.sets.specs.Sets.{has, add, union, below}
@@ -136,3 +137,8 @@ module _ (anc : ℕ → ℕ) (n me : ℕ) where
   pub notice-moved : (q : ℕ) (r : Rank) → (noticing anc n me q r).moved ≡ moved anc n r.marks q
   unfolding noticing done settling
   notice-moved q r = ⊎_elim (λ (e : has r.marks q ≡ true). rw e (sym (moved-again anc n r.marks q e))) (λ (e : has r.marks q ≡ false). rw e) (passes_or_fails (has r.marks q))
+
+  -- a notice of a death that is known changes nothing
+  pub notice_known : (q : ℕ) (r : Rank) (row : List ℕ) → has r.marks q ≡ true → row ≡ fresh anc n r.marks → record { rank = r; row = row; first = silent; second = silent; moved = nobody } ≡ noticing anc n me q r
+  unfolding noticing done saying
+  notice_known q r row e t = rw (e, t) refl

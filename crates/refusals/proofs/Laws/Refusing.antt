@@ -11,7 +11,7 @@ use Rattle.answers.specs.declared.Refusal.{Refusal}
 use Rattle.answers.specs.Answers.{number, answer_of}
 use Rattle.answers.proofs.Laws.Numbers.{number-one_to_one, number-not_0}
 use Rattle.sets.specs.Sets.{has, only, minus, below}
-use Rattle.sets.proofs.Laws.Bools.{passes_or_fails, passes, and_i, clash, fails, or_l, or-none, or_neither, not_i}
+use Rattle.sets.proofs.Laws.Bools.{passes_or_fails, passes, and_i, clash, fails, or_l, or_r, or-none, or_neither, not_i}
 use Rattle.sets.proofs.Laws.Members.{has-high}
 use Rattle.rank.specs.declared.Rank.{Rank}
 use Rattle.rank.specs.declared.Message.{Message}
@@ -174,6 +174,9 @@ stands_outside n dead c ev r m x k =
 
 pub clean_outside : (n dead c : ℕ) (ev : Event) (r : Rank) (m : Message) → Clean n dead c ev r m → ev.kind ≡ 1 → r.phase ≡ outside
 clean_outside n dead c ev r m x k = stands_outside n dead c ev r m x (or_l (eqb ev.kind 1) (eqb ev.kind 6) (eq-eqb ev.kind 1 k))
+
+pub clean_acknowledge : (n dead c : ℕ) (ev : Event) (r : Rank) (m : Message) → Clean n dead c ev r m → ev.kind ≡ 6 → r.phase ≡ outside
+clean_acknowledge n dead c ev r m x k = stands_outside n dead c ev r m x (or_r (eqb ev.kind 1) (eqb ev.kind 6) (eq-eqb ev.kind 6 k))
 
 -- who is told of is dead
 pub clean_told : (n dead c : ℕ) (ev : Event) (r : Rank) (m : Message) → Clean n dead c ev r m → ev.kind ≡ 4 → has dead ev.b ≡ true

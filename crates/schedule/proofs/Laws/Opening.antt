@@ -5,19 +5,19 @@ use Prim.Native.Nat.{ℕ, ◌*◌, ◌≤◌, ◌<◌}
 use native.Mathlib.Omega.{arith}
 use lib.ListN.{length, take}
 use borrow.Author.Tests.{lt-ltb, le-ltb}
-use Rattle.std.specs.Prelude.{Result, Ok, Err}
+use Rattle.std.specs.Prelude.{Ok, Err}
 use Rattle.answers.specs.declared.Refusal.{Refusal}
 use Rattle.answers.specs.declared.Refusal.TheVariants.{FewPlaces}
 use Rattle.answers.specs.Answers.{number}
 use Rattle.tree.specs.Tree.{flat}
 use Rattle.tree.specs.Forms.{tree_of, flat_form}
 use Rattle.tree.proofs.Laws.Forms.{flat_form_lem}
+use Rattle.calls.specs.Calls.{misshapen}
 use Rattle.calls.proofs.Laws.Shapes.{flat_shapely, shape_right}
 use Rattle.state.specs.declared.State.{State}
-use Rattle.state.specs.declared.Refused.{Refused}
 use Rattle.state.specs.States.{own_tree}
-use Rattle.state.specs.Starting.{Started, told as start_told, fresh_state, empty_state, started}
-use Rattle.state.proofs.Laws.Starting.{started-small, start_of_none, not_accepted, fresh_form, fresh_span}
+use Rattle.state.specs.Starting.{fresh_state, empty_state}
+use Rattle.state.proofs.Laws.Starting.{not_accepted, fresh_form, fresh_span}
 use Rattle.order.specs.Between.{InOrder}
 use Rattle.order.proofs.Laws.Fresh.{fresh_in_order}
 use Rattle.files.specs.declared.Header.{Header}
@@ -27,14 +27,17 @@ use Rattle.playing.specs.Playing.{Run, event_in, played, spelt}
 use Rattle.playing.proofs.Laws.Playing.{played-answers, played-spelt}
 use Rattle.schedule.specs.Runs.{told, refused_run, opened, run}
 
--- A start of no ranks hands back the empty state.
-pub start_none : (r : Result State Refused) (anc : ℕ → ℕ) (form span : ℕ) → start_told r ≡ started anc 0 form span → (start_told r).state ≡ empty_state
-start_none r anc form span e = ap (λ (x : Started). x.state) e ∙ start_of_none anc form span
-
 run_alike : (x y : Run) → x.answer ≡ y.answer → x.state ≡ y.state → x.answers ≡ y.answers → x ≡ y
 run_alike x y e f g =
     ap {B = Run} (λ (n : ℕ). record { answer = n; state = x.state; answers = x.answers }) e
     ∙ ap₂ {C = Run} (λ (s : State) (v : List ℕ). record { answer = y.answer; state = s; answers = v }) f g
+
+-- what the three parts of a run on a lent state tell
+pub accepted_on : (file out : List ℕ) (s : State) (v : List ℕ) → 0 ≡ (run file out).answer → s ≡ (run file out).state → v ≡ (run file out).answers → told (Ok s) v ≡ run file out
+accepted_on file out s v e f g = run_alike (told (Ok s) v) (run file out) e f g
+
+pub refused_on : (file out : List ℕ) (r : Refusal) (s : State) (v : List ℕ) → number r ≡ (run file out).answer → s ≡ (run file out).state → v ≡ (run file out).answers → told (Err (record { refusal = r; state = s })) v ≡ run file out
+refused_on file out r s v e f g = run_alike (told (Err (record { refusal = r; state = s })) v) (run file out) e f g
 
 -- ---- what a run answers, by its file's header
 
@@ -42,36 +45,30 @@ pub run-refused : (file out : List ℕ) (e : Refusal) → header file ≡ Err e 
 unfolding run opened
 run-refused file out e q = rw q
 
-pub told-refused : (file out : List ℕ) (e : Refusal) (r : Refused) → Err e ≡ header file → r ≡ record { refusal = e; state = empty_state } → told (Err r) out ≡ run file out
+pub told-refused : (file out : List ℕ) (e : Refusal) (s : State) → Err e ≡ header file → s ≡ empty_state → told (Err (record { refusal = e; state = s })) out ≡ run file out
 unfolding refused_run
-told-refused file out e r q g = ap (λ (x : Refused). told (Err x) out) g ∙ sym (run-refused file out e (sym q))
+told-refused file out e s q g = ap (λ (x : State). told (Err (record { refusal = e; state = x })) out) g ∙ sym (run-refused file out e (sym q))
 
 module _ (file out : List ℕ) (h : Header) (good : header file ≡ Ok h) where
   pub run_no_room : length out < 3 * h.events → run file out ≡ refused_run 25 out
   unfolding run opened
   run_no_room l = rw (good, lt-ltb (length out) (3 * h.events) l)
 
-  pub told_no_room : (r : Refused) → length out < 3 * h.events → r ≡ record { refusal = FewPlaces; state = empty_state } → told (Err r) out ≡ run file out
+  pub told_no_room : (s : State) → length out < 3 * h.events → s ≡ empty_state → told (Err (record { refusal = FewPlaces; state = s })) out ≡ run file out
   unfolding refused_run
-  told_no_room r l g = ap (λ (x : Refused). told (Err x) out) g ∙ sym (run_no_room l)
+  told_no_room s l g = ap (λ (x : State). told (Err (record { refusal = FewPlaces; state = x })) out) g ∙ sym (run_no_room l)
 
   opened_played : 3 * h.events ≤ length out → run file out ≡ played flat (event_at file) h.events 0 (fresh_state flat h.n flat_form 1) out
   unfolding run opened
   opened_played l = rw (good, le-ltb (length out) (3 * h.events) l)
 
-  -- It is started in the flat form with box size 1, and that is along the flat tree.
-  flat_start : (u : Started) → u ≡ started (tree_of flat_form 1) h.n flat_form 1 → (u.answer ≡ 0) × (u.state ≡ fresh_state flat h.n flat_form 1)
-  flat_start u g =
-      let small = started-small (tree_of flat_form 1) h.n flat_form 1 (shape_right h.n flat_form 1 (flat_shapely h.n (good_opened file h good).size)) in
-      (ap (λ (x : Started). x.answer) g ∙ small.0, ap (λ (x : Started). x.state) g ∙ small.1 ∙ ap (λ (anc : ℕ → ℕ). fresh_state anc h.n flat_form 1) (flat_form_lem 1))
+  -- It begins in the flat form with box size 1, which is right,
+  pub flat_shape : misshapen h.n flat_form 1 ≡ 0
+  flat_shape = shape_right h.n flat_form 1 (flat_shapely h.n (good_opened file h good).size)
 
-  -- The start isn't refused,
-  pub start_good : (r : Refused) → start_told (Err r) ≡ started (tree_of flat_form 1) h.n flat_form 1 → ⊥
-  start_good r g = not_accepted r.refusal (flat_start (start_told (Err r)) g).0
-
-  module _ (s : State) (g : start_told (Ok s) ≡ started (tree_of flat_form 1) h.n flat_form 1) where
+  module _ (s : State) (g : s ≡ fresh_state (tree_of flat_form 1) h.n flat_form 1) where
     fresh_is : s ≡ fresh_state flat h.n flat_form 1
-    fresh_is = (flat_start (start_told (Ok s)) g).1
+    fresh_is = g ∙ ap (λ (anc : ℕ → ℕ). fresh_state anc h.n flat_form 1) (flat_form_lem 1)
 
     own_flat : own_tree s ≡ flat
     own_flat = ap own_tree fresh_is ∙ ap₂ tree_of (fresh_form flat h.n flat_form 1) (fresh_span flat h.n flat_form 1) ∙ flat_form_lem 1

@@ -1,5 +1,5 @@
 -- Numbers and fields along their code. Assumes nothing.
-use mathlib.Core.Path.{◌≡◌, sym, ap, ◌∙◌}
+use mathlib.Core.Path.{◌≡◌, refl, sym, ap, ◌∙◌}
 use mathlib.Core.Bool.{Bool, true, false, cond}
 use mathlib.Core.List.{List, [], ◌∷◌, ◌++◌}
 use mathlib.Core.Logic.{◌⊎◌, inl, inr}
@@ -8,13 +8,11 @@ use native.Mathlib.Omega.{arith}
 use mir.Syntax.{w32}
 use mir.Val.{Fits}
 use lib.Dec.{ltb}
-use lib.ListN.{length, length-append}
+use lib.ListN.{length, set, length-append}
 use borrow.Author.Tests.{lt-ltb, le-ltb, ltb-true, ltb-false}
 use Rattle.sets.proofs.Laws.Bools.{passes_or_fails}
-use Rattle.text.specs.Text.{digits_of, decimal, field}
-use Rattle.text.specs.Pages.{Puts, HasRoom}
-use Rattle.text.specs.declared.Page.{Page}
-use Rattle.text.proofs.Laws.Writing.{puts_then, room_after}
+use Rattle.text.specs.Text.{Wrote, pasted, digits_of, decimal, field}
+use Rattle.text.proofs.Laws.Writing.{wrote_kept, wrote_then}
 
 -- ---- digits
 
@@ -68,17 +66,19 @@ decimal_short p m = go (passes_or_fails (ltb p 10))
     go (inr t) = rw (t, decimal-two p (ltb-false p 10 t) m)
 
 -- the code's two ways: one digit, or a tenth's digits and one more
-pub number_one : {p q : Page} (x : ℕ) → x < 10 → Puts p ((48 + x % 10) ∷ []) q → Puts p (decimal x) q
-number_one {p} {q} x l h = let z : x % 10 ≡ x = omega arith in rw (decimal-one x l) (rw z at h)
+pub number_one : (text : List ℕ) (at x : ℕ) → x < 10 → Wrote text at (decimal x) (set text at (48 + x)) (at + 1)
+unfolding pasted
+number_one text at x l = rw (decimal-one x l) (record { text_is = refl; next_is = refl })
 
-pub number_more : {p q r : Page} (x : ℕ) → Fits w32 x → 10 ≤ x → Puts p (decimal (x / 10)) q → Puts q ((48 + x % 10) ∷ []) r → Puts p (decimal x) r
-number_more x f l h k = rw (decimal_more x f.fits l) (puts_then h k)
+pub number_more : (text : List ℕ) (at x : ℕ) (t : List ℕ) (a : ℕ) → Fits w32 x → 10 ≤ x → Wrote text at (decimal (x / 10)) t a → Wrote text at (decimal x) (set t a (48 + x % 10)) (a + 1)
+unfolding pasted
+number_more text at x t a f l v = rw (decimal_more x f.fits l) (wrote_then v (record { text_is = refl; next_is = refl }))
 
-pub number_room : {p q : Page} (x : ℕ) → Fits w32 x → Puts p (decimal (x / 10)) q → HasRoom p 10 → HasRoom q 1
+pub number_room : (text : List ℕ) (at x : ℕ) (t : List ℕ) (a : ℕ) → Fits w32 x → at + 10 ≤ length text → Wrote text at (decimal (x / 10)) t a → a < length t
 unfolding decimal
-number_room x f h r =
-    let d : length (digits_of 10 (x / 10)) ≡ length (digits_of 9 (x / 10)) = ap length (digits_more 8 (x / 10) (omega (arith, f.fits))) in
-    room_after 9 1 h (omega (arith, length_digits 9 (x / 10))) r
+number_room text at x t a f r w =
+    let e : length (digits_of 10 (x / 10)) ≡ length (digits_of 9 (x / 10)) = ap length (digits_more 8 (x / 10) (omega (arith, f.fits))) in
+    omega (arith, w.next_is, wrote_kept w, length_digits 9 (x / 10))
 
 pub length-field : (x : ℕ) → length (field x) ≤ 11
 unfolding field

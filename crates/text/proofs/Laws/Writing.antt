@@ -82,6 +82,13 @@ page_ends h e = record { text_is = e ∙ now_is h; next_is = h.at_is }
 pub wrote_kept : {text : List ℕ} {at : ℕ} {l t : List ℕ} {a : ℕ} → Wrote text at l t a → length t ≡ length text
 wrote_kept {text} {at} {l} p = ap length p.text_is ∙ length-pasted text at l
 
+-- one piece after the other
+pub wrote_then : {text : List ℕ} {at : ℕ} {l t : List ℕ} {a : ℕ} {m u : List ℕ} {b : ℕ} → Wrote text at l t a → Wrote t a m u b → Wrote text at (l ++ m) u b
+wrote_then {text} {at} {l} {t} {a} {m} w v = record {
+  text_is = v.text_is ∙ rw (w.text_is, w.next_is) (sym (pasted-then text at l m));
+  next_is = omega (arith, w.next_is, v.next_is, length-append l m);
+}
+
 -- two that wrote the same wrote alike
 pub wrote_alike : {text : List ℕ} {at : ℕ} {l t u : List ℕ} {a b : ℕ} → Wrote text at l t a → Wrote text at l u b → (a ≡ b) × (t ≡ u)
 wrote_alike p q = (alike p.next_is q.next_is, alike p.text_is q.text_is)

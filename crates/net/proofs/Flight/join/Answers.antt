@@ -16,4 +16,4 @@ invariant_of-self c = let l = sym (flight-long _ _ c.self.invariant) ∙ ap leng
 pub returns : goal.returns
 returns c =
     let l = sym (flight-long _ _ c.self.invariant) ∙ ap length c.self.view_is in
-    flight_more _ _ _ _ (omega arith) c.put.ensures ∙ ap (λ (t : List Message). t ++ (c.args.m ∷ [])) c.self.view_is
+    flight_more _ _ _ _ (omega arith) c.put.ensures.messages ∙ ap (λ (t : List Message). t ++ (c.args.m ∷ [])) c.self.view_is

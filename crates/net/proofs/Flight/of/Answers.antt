@@ -5,4 +5,4 @@ use Rattle.net.proofs.Laws.Numbers.{flight_on}
 use Rattle.net.proofs.Flight.of.Goals as goal
 
 pub loop-i-preserved : goal.loop-i-preserved
-loop-i-preserved c = flight_on _ _ _ _ (omega arith) (search rules) c.loop-i.invariant c.put.ensures
+loop-i-preserved c = flight_on _ _ _ _ (omega arith) (search rules) c.loop-i.invariant c.put.ensures.messages

@@ -19,9 +19,9 @@ invariant_of-self c = search (seen_seat, below-fresh)
 pub invariant_of-self-2 : goal.invariant_of-self-2
 invariant_of-self-2 c = search asked_seat
 
-pub settle-requires : goal.settle-requires
-settle-requires c = search (asked_awaits, seen_awaits)
+pub acted-requires : goal.acted-requires
+acted-requires c = search (asked_awaits, seen_awaits)
 
 pub returns : goal.returns
 unfolding taking_ask saying
-returns c = rw (c.settle.ensures, c.answer-reply.ensures, c.view-self.ensures, below-marks _ _ _ _ _ c.mended_below-m.ensures, below-moved _ _ _ _ _ c.mended_below-m.ensures)
+returns c = rw (c.acted.ensures, c.answer-reply.ensures, c.view-self.ensures, below-marks _ _ _ _ _ c.mended_below-m.ensures, below-moved _ _ _ _ _ c.mended_below-m.ensures)

@@ -6,4 +6,4 @@ use Rattle.rank.proofs.Seat.decide.Goals as goal
 
 pub returns : goal.returns
 unfolding deciding concluding
-returns c = rw (c.saying.ensures, c.down.ensures, c.minus-to.ensures, c.union.ensures, c.union-children.ensures, c.pointing-heard.ensures, c.minus.ensures, receivers c.args.self c.requires)
+returns c = rw (c.saying.ensures, c.down.ensures, c.minus-to.ensures, c.union.ensures, c.union-children.ensures, c.pointing-heard.ensures, c.minus.ensures, receivers c.args.self.now c.requires)

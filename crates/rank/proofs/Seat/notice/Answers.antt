@@ -22,8 +22,8 @@ invariant_of-self-2 c =
     let said = mourned c.args.self _ _ _ _ _ _ _ c.requires.q_lt_n c.waits_for-parent_died.ensures c.lost_child-child_died.ensures c.mended-m.ensures c.gained-gained.ensures c.view-self.ensures c.mourn-said.ensures in
     search bereaved_seat
 
-pub settle-requires : goal.settle-requires
-settle-requires c =
+pub acted-requires : goal.acted-requires
+acted-requires c =
     let said = mourned c.args.self _ _ _ _ _ _ _ c.requires.q_lt_n c.waits_for-parent_died.ensures c.lost_child-child_died.ensures c.mended-m.ensures c.gained-gained.ensures c.view-self.ensures c.mourn-said.ensures in
     search (bereaved_awaits, seen_awaits)
 
@@ -31,4 +31,4 @@ pub returns : goal.returns
 unfolding noticing saying
 returns c =
     let said = mourned c.args.self _ _ _ _ _ _ _ c.requires.q_lt_n c.waits_for-parent_died.ensures c.lost_child-child_died.ensures c.mended-m.ensures c.gained-gained.ensures c.view-self.ensures c.mourn-said.ensures in
-    rw (c.settle.ensures, said, c.view-self.ensures, mended-marks _ _ _ _ _ c.mended-m.ensures, mended-moved _ _ _ _ _ c.mended-m.ensures, sym c.member.ensures ∙ c.if-member.false)
+    rw (c.acted.ensures, said, c.view-self.ensures, mended-marks _ _ _ _ _ c.mended-m.ensures, mended-moved _ _ _ _ _ c.mended-m.ensures, sym c.member.ensures ∙ c.if-member.false)

@@ -7,4 +7,4 @@ pub returns : goal.returns
 unfolding viewing
 returns c =
     let pre = c.requires in
-    rw (c.minus.ensures, c.minus-unheard.ensures, c.union.ensures, c.minus-stayed.ensures, pre.awaits, awaited_next c.args.self c.args.m.marks c.args.m.moved.ranks c.args.gained c.args.m.table pre.table_value pre.marks_stay pre.parents_stay pre.gained_value)
+    rw (c.minus.ensures, c.minus-unheard.ensures, c.union.ensures, c.minus-stayed.ensures, pre.awaits, awaited_next c.args.self.now c.args.m.marks c.args.m.moved.ranks c.args.gained c.args.m.table pre.table_value pre.marks_stay pre.parents_stay pre.gained_value)

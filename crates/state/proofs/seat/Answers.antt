@@ -1,7 +1,7 @@
--- `fresh_state` meets its contract: n fresh ranks and rows. Assumes nothing.
+-- `seat` meets its contract: n fresh ranks and rows, and all else is as in the empty state. Assumes nothing.
 use Rattle.calls.proofs.Laws.Shapes.{view-le, view_boxed}
-use Rattle.state.proofs.Laws.Starting.{fresh-state}
-use Rattle.state.proofs.fresh_state.Goals as goal
+use Rattle.state.proofs.Laws.Starting.{empty_ranks, seated}
+use Rattle.state.proofs.seat.Goals as goal
 
 pub fresh-table-requires-clause-span_nonzero : goal.fresh-table-requires-clause-span_nonzero
 fresh-table-requires-clause-span_nonzero c = search view_boxed
@@ -12,5 +12,8 @@ fresh-table-requires-clause-n_bound c = search view-le
 pub first_seats-requires-clause-n_bound : goal.first_seats-requires-clause-n_bound
 first_seats-requires-clause-n_bound c = search view-le
 
+pub first_seats-requires-clause-no_ranks : goal.first_seats-requires-clause-no_ranks
+first_seats-requires-clause-no_ranks c = empty_ranks _ c.requires.empty
+
 pub returns : goal.returns
-returns c = search fresh-state
+returns c = seated _ _ _ _ _ _ _ c.requires.empty c.first_seats.ensures.ranks_after c.first_seats.ensures.tables_after
