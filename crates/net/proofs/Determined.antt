@@ -5,7 +5,9 @@ use Prim.Native.Nat.{ℕ}
 use contract.Lifetimes.{Lfts}
 use Rattle.sets.proofs.Laws.Alike.{alike}
 use Rattle.rank.specs.declared.Message.{Message}
-use Rattle.net.proofs.Laws.Numbers.{same_numbers}
+use Rattle.net.specs.declared.Flight.TheInside.{Inside}
+use Rattle.net.specs.declared.Flight.TheView.{view, invariant}
+use Rattle.net.proofs.Laws.Numbers.{same_numbers, flight_same}
 use Rattle.net.proofs.nothing.Reads as nothing
 use Rattle.net.proofs.at.Reads as at
 use Rattle.net.proofs.Flight.of.Reads as of
@@ -21,6 +23,12 @@ nothing_determined κs a t u x y e f = alike e f
 
 pub at_determined : (κs : Lfts 0) (a : _) (t u : Message) (x y : _) → at.Post κs a t x → at.Post κs a u y → t ≡ u
 at_determined κs a t u x y e f = alike e f
+
+-- What is kept of a list while events are played leaves nothing open either: the messages in it have one count and one array of numbers.
+pub flight_determined : (f g : Inside) → invariant f → invariant g → view f ≡ view g → f ≡ g
+flight_determined f g h k e =
+    let same = flight_same f.numbers g.numbers f.count g.count h.0 k.0 h.1 k.1 h.2 k.2 e in
+    λ i. record { numbers = same.0 i; count = same.1 i }
 
 -- A list while events are played is the messages in it.
 pub of_determined : (κs : Lfts 0) (a : _) (t u : List Message) (x y : _) → of.Post κs a t x → of.Post κs a u y → t ≡ u

@@ -73,7 +73,8 @@ fn put(numbers: &mut [u64; 384], place: u8, m: Message)
 
 fn pull(numbers: &mut [u64; 384], place: u8)
     requires { place + 1 < 128 }
-    ensures { messages_of numbers.new ≡ set (messages_of numbers.old) place (get_or (messages_of numbers.old) (place + 1) zero_message) }
+    ensures messages { messages_of numbers.new ≡ set (messages_of numbers.old) place (get_or (messages_of numbers.old) (place + 1) zero_message) }
+    ensures small { Small numbers.old → Small numbers.new }
 {
     let i = place as usize;
     let next = i + 1;
@@ -83,7 +84,7 @@ fn pull(numbers: &mut [u64; 384], place: u8)
 }
 
 // The list while events are played, changed where it stands. Each message is three numbers, in three runs of one array, as messages_of has
-// them; what stands past the count is no message.
+// them, small and with zeros past the count: one list has one array.
 #[derive(Drop)]
 pub struct Flight {
     numbers: [u64; 384],
@@ -95,7 +96,7 @@ impl Model for Flight {
 
     ghost view = { λ f. take f.count (messages_of f.numbers) };
 
-    ghost invariant = { λ f. f.count ≤ 128 };
+    ghost invariant = { λ f. (f.count ≤ 128) × Small f.numbers × (messages_of f.numbers ≡ padded (take f.count (messages_of f.numbers))) };
 }
 
 impl Flight {
@@ -126,7 +127,19 @@ impl Flight {
         requires { count ≤ 128 }
         ensures { result ≡ take count (messages_of numbers) }
     {
-        Flight { count, numbers }
+        let mut found = [0u64; 384];
+        for i in 0..count {
+            let k = i as usize;
+            put(
+                &mut found,
+                i,
+                message_of(numbers[k], numbers[128 + k], numbers[256 + k]),
+            );
+        }
+        Flight {
+            count,
+            numbers: found,
+        }
     }
 
     pub fn numbers(&self) -> [u64; 384]
@@ -171,6 +184,7 @@ impl Flight {
         for i in place as u8..last {
             pull(&mut self.numbers, i);
         }
+        put(&mut self.numbers, last, nothing());
         self.count = last;
     }
 

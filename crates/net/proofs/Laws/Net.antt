@@ -8,9 +8,9 @@ use native.Mathlib.Nat.{le_dest}
 use native.Mathlib.Numerals.{add-one}
 use native.Mathlib.Omega.{arith}
 use lib.ListN.{length, get_or, set, take, drop, replicate, length-append, length-drop, length-replicate, get_or-replicate, get_or-append, get_or-eq_default}
-use lib.Seq.{get_or-append-add, take-suc, set-append_seam, length-take-le, take_at, append_snoc}
+use lib.Seq.{get_or-append-add, take-suc, set-append_seam, length-take-le, take_at, append_snoc, ext_get_or, get_or-take, get_or-set_same, get_or-set_other, take-set-le}
 use Rattle.sets.specs.Sets.{has, only, minus, count}
-use Rattle.sets.proofs.Laws.Bools.{lt-or-le}
+use Rattle.sets.proofs.Laws.Bools.{lt-or-le, eq_or_ne}
 use Rattle.sets.proofs.Laws.Searches.{Smallest, count-first}
 use Rattle.rank.specs.declared.Send.{Send}
 use Rattle.rank.specs.declared.Message.{Message}
@@ -47,6 +47,30 @@ pub padded-take : (l : List Message) → take (length l) (padded l) ≡ l
 unfolding padded
 padded-take l = take_at l (replicate (128 - length l) zero_message) (length l) refl
 
+-- ---- nothing stands past a place
+
+abbrev pub Clear : ℕ → List Message → Type 0
+Clear c l = (k : ℕ) → c ≤ k → get_or l k zero_message ≡ zero_message
+
+pub clear_padded : (l t : List Message) (c : ℕ) → l ≡ padded t → length t ≤ c → Clear c l
+clear_padded l t c e h k b = ap (λ (x : List Message). get_or x k zero_message) e ∙ padded-past t k (omega arith)
+
+pub padded_clear : (l : List Message) (c : ℕ) → length l ≡ 128 → c ≤ 128 → Clear c l → l ≡ padded (take c l)
+padded_clear l c long b h =
+    let lt : length (take c l) ≡ c = length-take-le c l (omega arith) in
+    ext_get_or zero_message l (padded (take c l)) (long ∙ sym (padded-long (take c l) (omega arith)))
+    (λ k m. ⊎_elim (λ (a : k < c). sym (padded_at (take c l) k ∙ get_or-take c l k zero_message a)) (λ (a : c ≤ k). h k a ∙ sym (padded-past (take c l) k (omega arith))) (lt-or-le k c))
+
+-- a message put before the place, and none put at the last before it
+pub clear_put : (l next : List Message) (c d i : ℕ) (m : Message) → Clear c l → c ≤ d → i < d → next ≡ set l i m → Clear d next
+clear_put l next c d i m h b a e k g = ap (λ (x : List Message). get_or x k zero_message) e ∙ get_or-set_other l i k m zero_message (λ z. omega arith) ∙ h k (omega arith)
+
+pub clear_out : (l next : List Message) (c i : ℕ) (m : Message) → Clear c l → c ≡ i + 1 → i < length l → m ≡ zero_message → next ≡ set l i m → Clear i next
+clear_out l next c i m h b a z e k g = ap (λ (x : List Message). get_or x k zero_message) e ∙ ⊎_elim here (λ (d : k ≡ i → ⊥). get_or-set_other l i k m zero_message d ∙ h k (omega arith)) (eq_or_ne k i)
+  where
+    here : k ≡ i → get_or (set l i m) k zero_message ≡ zero_message
+    here d = ap (λ (j : ℕ). get_or (set l i m) j zero_message) d ∙ get_or-set_same l i m zero_message a ∙ z
+
 -- ---- one message taken out
 
 pub length_without : (net : List Message) (c place : ℕ) → length net ≡ 128 → c ≤ 128 → place < c → length (without place (take c net)) ≡ c - 1
@@ -82,6 +106,10 @@ closing_done c i l want a b h g =
     let p : suc i ≡ c = omega arith in
     let q : c - 1 ≡ i = omega arith in
     ap (λ (k : ℕ). take k l) q ∙ sym (closed i l (omega arith)) ∙ ap (λ (k : ℕ). without i (take k l)) p ∙ g
+
+-- what is put at the last place or past it is no matter to those before it
+pub before_put : (c i : ℕ) (l next : List Message) (m : Message) → c ≤ i + 1 → next ≡ set l i m → take (c - 1) next ≡ take (c - 1) l
+before_put c i l next m h e = ap (take (c - 1)) e ∙ take-set-le (c - 1) l i m (omega arith)
 
 -- ---- the messages of a send written at the end
 

@@ -7,11 +7,12 @@ use native.Mathlib.Nat.{le_dest}
 use native.Mathlib.Omega.{arith}
 use native.Mathlib.Numerals.{add-one}
 use lib.ListN.{length, get_or, set, take, replicate, length-set, length-replicate, get_or-eq_default}
-use lib.Seq.{length-take-le, ext_get_or, get_or-set_same, get_or-set_other, get_or-take, take-suc, take-suc-set}
+use lib.Seq.{length-take-le, ext_get_or, get_or-set_same, get_or-set_other, get_or-take, take-suc-set}
 use Rattle.sets.proofs.Laws.Bools.{lt-or-le, eq_or_ne}
 use Rattle.tree.proofs.Laws.Rows.{row_is, row_cong, row_replicate, length-row, get_d_row}
 use Rattle.rank.specs.declared.Message.{Message}
 use Rattle.net.specs.Net.{zero_message, padded, message_of, messages_of, Small}
+use Rattle.net.proofs.Laws.Net.{padded-take, Clear, clear_padded}
 
 -- ---- what three numbers put at a place do to the list
 
@@ -119,14 +120,20 @@ messages_zeros = sym (row_replicate 128 zero_message zero_message ∙ row_cong z
 
 -- ---- along the code of `pull`: the second and third number are read once the ones before them are written
 
-pub pull-three : (x : List ℕ) (i b c : ℕ) → i + 1 < 128 → length x ≡ 384 → b ≡ get_or (set x i (get_or x (i + 1) 0)) (128 + (i + 1)) 0 → c ≡ get_or (set (set x i (get_or x (i + 1) 0)) (128 + i) b) (256 + (i + 1)) 0
-    → messages_of (three x i (get_or x (i + 1) 0) b c) ≡ set (messages_of x) i (get_or (messages_of x) (i + 1) zero_message)
-pull-three x i b c l long e f =
-    let second : b ≡ get_or x (128 + (i + 1)) 0 = e ∙ get_or-set_other x i (128 + (i + 1)) (get_or x (i + 1) 0) 0 (λ z. omega arith) in
-    let third : c ≡ get_or x (256 + (i + 1)) 0 =
-    f ∙ get_or-set_other (set x i (get_or x (i + 1) 0)) (128 + i) (256 + (i + 1)) b 0 (λ z. omega arith)
-    ∙ get_or-set_other x i (256 + (i + 1)) (get_or x (i + 1) 0) 0 (λ z. omega arith) in
-    messages-three x i (get_or x (i + 1) 0) b c long (omega arith) (get_or (messages_of x) (i + 1) zero_message) (rw (second, third) (messages-at x (i + 1) l))
+module _ (x : List ℕ) (i b c : ℕ) (l : i + 1 < 128) (e : b ≡ get_or (set x i (get_or x (i + 1) 0)) (128 + (i + 1)) 0) (f : c ≡ get_or (set (set x i (get_or x (i + 1) 0)) (128 + i) b) (256 + (i + 1)) 0) where
+  pulled-second : b ≡ get_or x (128 + (i + 1)) 0
+  pulled-second = e ∙ get_or-set_other x i (128 + (i + 1)) (get_or x (i + 1) 0) 0 (λ z. omega arith)
+
+  pulled-third : c ≡ get_or x (256 + (i + 1)) 0
+  pulled-third =
+      f ∙ get_or-set_other (set x i (get_or x (i + 1) 0)) (128 + i) (256 + (i + 1)) b 0 (λ z. omega arith)
+      ∙ get_or-set_other x i (256 + (i + 1)) (get_or x (i + 1) 0) 0 (λ z. omega arith)
+
+  pub pull-three : length x ≡ 384 → messages_of (three x i (get_or x (i + 1) 0) b c) ≡ set (messages_of x) i (get_or (messages_of x) (i + 1) zero_message)
+  pull-three long = messages-three x i (get_or x (i + 1) 0) b c long (omega arith) (get_or (messages_of x) (i + 1) zero_message) (rw (pulled-second, pulled-third) (messages-at x (i + 1) l))
+
+  pub pull_small : Small x → Small (three x i (get_or x (i + 1) 0) b c)
+  pull_small h = small-three x i (get_or x (i + 1) 0) b c (omega arith) (h.first (i + 1) l) (omega (arith, pulled-second, h.bound (128 + (i + 1)))) (omega (arith, pulled-third, h.bound (256 + (i + 1)))) h
 
 -- small numbers with the same messages are the same
 spread : (a : ℕ) → a < 2 ^ 56 → a ≡ a % 256 + 256 * (a / 256 % 256) + 65536 * (a / 65536 % 256) + 16777216 * (a / 16777216 % 4294967296)
@@ -170,7 +177,16 @@ flight_at x c place b l = messages-at x place (omega arith) ∙ sym (get_or-take
 pub flight_more : (x y : List ℕ) (c : ℕ) (m : Message) → c < 128 → messages_of y ≡ set (messages_of x) c m → take (c + 1) (messages_of y) ≡ take c (messages_of x) ++ (m ∷ [])
 flight_more x y c m l e = ap₂ (λ (k : ℕ) (t : List Message). take k t) (add-one c) e ∙ take-suc-set (messages_of x) c m (omega (arith, messages-long x))
 
-pub flight_on : (x y : List ℕ) (l : List Message) (i : ℕ) → i < 128 → i < length l → take i (messages_of x) ≡ take i l → messages_of y ≡ set (messages_of x) i (get_or l i zero_message) → take (i + 1) (messages_of y) ≡ take (i + 1) l
-flight_on x y l i b h e f =
-    flight_more x y i (get_or l i zero_message) b f ∙ ap (λ (t : List Message). t ++ (get_or l i zero_message ∷ [])) e
-    ∙ sym (take-suc l i zero_message h) ∙ ap (λ (k : ℕ). take k l) (sym (add-one i))
+-- of an array with zeros past the messages of a list
+pub flight_of : (x : List ℕ) (l : List Message) (c i : ℕ) → i ≡ c → c ≤ length l → messages_of x ≡ padded (take i l) → take c (messages_of x) ≡ take c l
+flight_of x l c i j b e = ap (take c) (e ∙ ap (λ (k : ℕ). padded (take k l)) j) ∙ subst (λ (k : ℕ). take k (padded (take c l)) ≡ take c l) (length-take-le c l b) (padded-take (take c l))
+
+pub flight_held : (x : List ℕ) (l : List Message) (c i : ℕ) → i ≡ c → c ≤ length l → messages_of x ≡ padded (take i l) → messages_of x ≡ padded (take c (messages_of x))
+flight_held x l c i j b e = e ∙ ap padded (ap (λ (k : ℕ). take k l) j ∙ sym (flight_of x l c i j b e))
+
+pub flight_clear : (x : List ℕ) (c : ℕ) → c ≤ 128 → messages_of x ≡ padded (take c (messages_of x)) → Clear c (messages_of x)
+flight_clear x c b e = clear_padded (messages_of x) (take c (messages_of x)) c e (omega (arith, flight-long x c b))
+
+-- and one list has one count and one such array
+pub flight_same : (x y : List ℕ) (c d : ℕ) → c ≤ 128 → d ≤ 128 → Small x → Small y → messages_of x ≡ padded (take c (messages_of x)) → messages_of y ≡ padded (take d (messages_of y)) → take c (messages_of x) ≡ take d (messages_of y) → (x ≡ y) × (c ≡ d)
+flight_same x y c d a b h k p q e = (same_numbers x y h k (p ∙ ap padded e ∙ sym q), sym (flight-long x c a) ∙ ap length e ∙ flight-long y d b)

@@ -8,4 +8,4 @@ use Rattle.net.proofs.Laws.Numbers.{flight_at}
 use Rattle.net.proofs.Flight.at.Goals as goal
 
 pub returns-then-place-self : goal.returns-then-place-self
-returns-then-place-self c = c.message_of.ensures ∙ flight_at _ _ _ c.self.invariant c.if-place-self.true ∙ ap (λ (l : List Message). get_or l c.args.place zero_message) c.self.view_is
+returns-then-place-self c = c.message_of.ensures ∙ flight_at _ _ _ c.self.invariant.0 c.if-place-self.true ∙ ap (λ (l : List Message). get_or l c.args.place zero_message) c.self.view_is

@@ -5,4 +5,4 @@ use Rattle.net.proofs.Laws.Numbers.{flight-long}
 use Rattle.net.proofs.Flight.count.Goals as goal
 
 pub returns : goal.returns
-returns c = sym (flight-long _ _ c.self.invariant) ∙ ap length c.self.view_is
+returns c = sym (flight-long _ _ c.self.invariant.0) ∙ ap length c.self.view_is

@@ -11,5 +11,5 @@ loop-i-init c = (messages_zeros, small_zeros)
 
 pub loop-i-preserved : goal.loop-i-preserved
 loop-i-preserved c =
-    let l = sym (flight-long _ _ c.self.invariant) ∙ ap length c.self.view_is in
+    let l = sym (flight-long _ _ c.self.invariant.0) ∙ ap length c.self.view_is in
     (c.put.ensures.messages ∙ padded_on _ _ _ _ (omega arith) (omega arith) c.loop-i.invariant.0 c.at.ensures, c.put.ensures.small c.loop-i.invariant.1)

@@ -13,5 +13,5 @@ loop-i-init c = rw c.nothing-found.ensures
 
 pub loop-i-preserved : goal.loop-i-preserved
 loop-i-preserved c =
-    let l = sym (flight-long _ _ c.self.invariant) ∙ ap length c.self.view_is in
+    let l = sym (flight-long _ _ c.self.invariant.0) ∙ ap length c.self.view_is in
     padded_on _ _ _ _ (omega arith) (omega arith) c.loop-i.invariant c.at.ensures

@@ -1,0 +1,8 @@
+-- `of_numbers` meets its contract. The invariant: the first i messages have their numbers in their places, with zeros after them. Assumes nothing.
+use mathlib.Core.Path.{◌≡◌}
+use lib.ListN.{take}
+use Rattle.net.specs.Net.{messages_of, padded, Small}
+use Rattle.net.proofs.Flight.of_numbers.Given as goal
+
+abbrev pub invariant-loop-i : goal.invariant-loop-i
+invariant-loop-i l = (messages_of l.found ≡ padded (take l.i (messages_of l.numbers))) × Small l.found
