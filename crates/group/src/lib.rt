@@ -65,7 +65,9 @@ fn plan_of(s: &State, ev: Event) -> Result<Plan, NotPlanned>
     plans::plan_event(seat, g.dead, g.count, ev, m)
 }
 
-// The list after a plan: a message has left, if one leaves, and two sends have joined. Answers how many have joined.
+// The list after a plan: a message has left, if one leaves, and two sends have joined. Answers how many have joined. In line, so that no plan is
+// stored for a call.
+#[inline(always)]
 pub fn post(flight: &mut Flight, place: u32, me: u8, p: Plan) -> u32
     requires place_in { p.leaves ≡ true → place < length flight.old }
     requires room { length flight.old + size p.acted.first + size p.acted.second - cond p.leaves 1 0 ≤ 128 }

@@ -1,4 +1,4 @@
-// The plan of an event: what it will change, decided from one rank's record and row and the message at the place.
+// The plan of an event: what it will change, decided from one rank's record and row and the message at the place. It is made in line, as rules are.
 #![tactic(auto)]
 
 ghost use Rattle.std.specs.Prelude.{◌≡◌, ◌&&◌, cond, eqb, ◌+◌, ◌-◌, ◌<◌};
@@ -71,6 +71,7 @@ pub fn known(ev: Event, marks: u64) -> bool
 
 // A message reaches its receiver.
 #[tactic(auto, unfolding(crate::specs::Plans::delivered))]
+#[inline(always)]
 fn deliver(seat: Seat, dead: u64, m: Message) -> Acted
     requires { FreshSubject (tree_of seat.form seat.span) seat.n m seat.me seat.rank }
     ensures { result ≡ delivered (tree_of seat.form seat.span) seat.n dead seat.me m seat.rank seat.row }
@@ -87,6 +88,7 @@ fn deliver(seat: Seat, dead: u64, m: Message) -> Acted
 
 // What the event has its rank do.
 #[tactic(auto, unfolding(crate::specs::Plans::acting))]
+#[inline(always)]
 fn act(seat: Seat, dead: u64, ev: Event, m: Message) -> Acted
     requires fresh_subject { FreshSubject (tree_of seat.form seat.span) seat.n m seat.me seat.rank }
     requires b_lt_n { ev.kind ≡ 4 → ev.b < seat.n }
@@ -114,6 +116,7 @@ pub fn afterwards(count: u8, first: Send, second: Send, leaves: bool) -> u32
 }
 
 // What an event does that is not refused, whether or not there is room for what it sends.
+#[inline(always)]
 pub fn draft(seat: Seat, dead: u64, ev: Event, m: Message) -> Plan
     requires fresh_subject { FreshSubject (tree_of seat.form seat.span) seat.n m seat.me seat.rank }
     requires b_lt_n { ev.kind ≡ 4 → ev.b < seat.n }

@@ -1,5 +1,6 @@
 // One rank: what it holds, and what it does when it enters, takes a message, hears of a death, or settles.
-// A rank at its seat goes in by value and the new record comes back, with its row of the tables, what it sends, and moved.
+// A rank at its seat goes in by value and the new record comes back, with its row of the tables, what it sends, and moved. The rules are in line
+// where an event has one done, so that neither is stored for a call.
 // The proofs below may cite the laws and open the definitions that stand here.
 #![tactic(auto, using(crate::proofs::Laws::Acting::along_the_code), unfolding(crate::specs::Rules::saying, crate::specs::Rules::in_phase, crate::specs::Rules::deciding, crate::specs::Rules::settled, crate::specs::Rules::done, crate::specs::Rules::settling, crate::specs::Rules::entering, crate::specs::Rules::lowered, crate::specs::Rules::taking_down, crate::specs::Rules::asked, crate::specs::Rules::renewing, crate::specs::Rules::regathering, crate::specs::Rules::orphaned, crate::specs::Rules::noticing, crate::specs::Rules::acknowledging, crate::specs::Records::becoming, crate::specs::Records::combining, crate::specs::Records::concluding, crate::specs::Records::owing, crate::specs::Records::admitting, crate::specs::Records::proposal, crate::specs::Records::children_of, crate::specs::Records::fresh_rank, crate::specs::Records::hearing, crate::specs::Sends::silent, crate::specs::Sends::reports, crate::specs::Sends::tells, crate::specs::Sends::asks, crate::specs::Triples::fresh_triple, crate::specs::Triples::combine, crate::specs::Triples::closing, crate::specs::Triples::code))]
 
@@ -362,6 +363,7 @@ impl Seat {
     }
 
     // The rank enters with word w.
+    #[inline(always)]
     pub fn enter(mut self, w: u32) -> Acted
         requires { Awaits (tree_of self.form self.span) self.n self.me self.rank }
         ensures { result ≡ entering (tree_of self.form self.span) self.n self.me w self.rank }
@@ -373,6 +375,7 @@ impl Seat {
 
     // UP x from q.
     #[tactic(auto, using(crate::proofs::Laws::Acting::fewer_awaited), unfolding(crate::specs::Rules::taking_up, crate::specs::Rules::raised, crate::specs::Rules::noting, crate::specs::Rules::in_phase, crate::specs::Records::owing, crate::specs::Records::combining, crate::specs::Records::hearing))]
+    #[inline(always)]
     pub fn up(mut self, q: u8, x: Triple) -> Acted
         requires awaits { Awaits (tree_of self.form self.span) self.n self.me self.rank }
         requires q_lt_n { q < self.n }
@@ -389,6 +392,7 @@ impl Seat {
     }
 
     // DOWN x.
+    #[inline(always)]
     pub fn down(mut self, x: Triple) -> Acted
         requires { Awaits (tree_of self.form self.span) self.n self.me self.rank }
         ensures { result ≡ taking_down (tree_of self.form self.span) self.n self.me x self.rank }
@@ -419,6 +423,7 @@ impl Seat {
     }
 
     // ASK from q: every rank below q is dead.
+    #[inline(always)]
     pub fn ask(mut self, q: u8) -> Acted
         requires awaits { Awaits (tree_of self.form self.span) self.n self.me self.rank }
         requires q_lt_n { q < self.n }
@@ -450,6 +455,7 @@ impl Seat {
     }
 
     // Told that q is dead.
+    #[inline(always)]
     pub fn notice(mut self, q: u8) -> Acted
         requires awaits { Awaits (tree_of self.form self.span) self.n self.me self.rank }
         requires q_lt_n { q < self.n }
@@ -530,6 +536,7 @@ impl Seat {
     }
 
     // The acknowledged set becomes the marks.
+    #[inline(always)]
     pub fn acknowledge(mut self) -> Acted
         ensures { result ≡ acknowledging (tree_of self.form self.span) self.n self.me self.rank }
     {
