@@ -224,7 +224,7 @@ impl Flight {
         }
     }
 
-    // A message leaves, if one leaves, and two sends join. Answers how many have joined. In line, as group's post is.
+    // A message leaves, if one leaves, and two sends join. Answers how many have joined. In line: a call would store both sends.
     #[inline(always)]
     pub fn forward(&mut self, place: u32, me: u8, leaves: bool, first: Send, second: Send) -> u32
         requires place_in { leaves ≡ true → place < length self.old }

@@ -1,4 +1,4 @@
-// The plan of an event: what it will change, decided from one rank's record and row and the message at the place. It is made in line, as rules are.
+// The plan of an event: what it will change, decided from one rank's record and row and the message at the place. A draft of it is made in line, as rules are.
 #![tactic(auto)]
 
 ghost use Rattle.std.specs.Prelude.{◌≡◌, ◌&&◌, cond, eqb, ◌+◌, ◌-◌, ◌<◌};

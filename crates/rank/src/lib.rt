@@ -1,6 +1,6 @@
 // One rank: what it holds, and what it does when it enters, takes a message, hears of a death, or settles.
-// A rank at its seat goes in by value and the new record comes back, with its row of the tables, what it sends, and moved. The rules are in line
-// where an event has one done, so that neither is stored for a call.
+// A rank at its seat goes in by value and the new record comes back, with its row of the tables, what it sends, and moved. The rules are in line:
+// a call would store the seat and what comes back, and read both again.
 // The proofs below may cite the laws and open the definitions that stand here.
 #![tactic(auto, using(crate::proofs::Laws::Acting::along_the_code), unfolding(crate::specs::Rules::saying, crate::specs::Rules::in_phase, crate::specs::Rules::deciding, crate::specs::Rules::settled, crate::specs::Rules::done, crate::specs::Rules::settling, crate::specs::Rules::entering, crate::specs::Rules::lowered, crate::specs::Rules::taking_down, crate::specs::Rules::asked, crate::specs::Rules::renewing, crate::specs::Rules::regathering, crate::specs::Rules::orphaned, crate::specs::Rules::noticing, crate::specs::Rules::acknowledging, crate::specs::Records::becoming, crate::specs::Records::combining, crate::specs::Records::concluding, crate::specs::Records::owing, crate::specs::Records::admitting, crate::specs::Records::proposal, crate::specs::Records::children_of, crate::specs::Records::fresh_rank, crate::specs::Records::hearing, crate::specs::Sends::silent, crate::specs::Sends::reports, crate::specs::Sends::tells, crate::specs::Sends::asks, crate::specs::Triples::fresh_triple, crate::specs::Triples::combine, crate::specs::Triples::closing, crate::specs::Triples::code))]
 
