@@ -128,16 +128,13 @@ empty_state_lem r m u e f g = g ∙ ap₂ (λ (x : Rank) (y : Message). joined (
 pub fresh-state : (anc : ℕ → ℕ) (n form span : ℕ) (rs : List Rank) (m : Message) (t : List (List ℕ)) (u : State) → rs ≡ row (first_rank anc n) 64 → m ≡ zero_message → t ≡ row (first_row anc n) 64
     → u ≡ joined (record { n = n; form = form; span = span; count = 0; dead = 0; ranks = rs; net = replicate 128 m }) t → u ≡ fresh_state anc n form span
 unfolding fresh_state
-fresh-state anc n form span rs m t u e f h g =
-    g ∙ ap₂ (λ (x : List Rank) (y : Message). joined (record { n = n; form = form; span = span; count = 0; dead = 0; ranks = x; net = replicate 128 y }) t) e f
-    ∙ ap (λ (z : List (List ℕ)). joined (record { n = n; form = form; span = span; count = 0; dead = 0; ranks = row (first_rank anc n) 64; net = replicate 128 zero_message }) z) h
+fresh-state anc n form span rs m t u e f h g = rw (g, e, f, h) refl
 
 -- its case on the empty state, with the group record's other fields as they stand there
 pub seated : (anc : ℕ → ℕ) (n form span : ℕ) (s : State) (rs : List Rank) (t : List (List ℕ)) → s ≡ empty_state → rs ≡ row (first_rank anc n) 64 → t ≡ row (first_row anc n) 64
     → joined (record { n = n; form = form; span = span; count = s.group.count; dead = s.group.dead; ranks = rs; net = s.group.net }) t ≡ fresh_state anc n form span
 unfolding empty_state
-seated anc n form span s rs t e f g =
-    fresh-state anc n form span rs zero_message t _ f refl g (ap (λ (x : State). joined (record { n = n; form = form; span = span; count = x.group.count; dead = x.group.dead; ranks = rs; net = x.group.net }) t) e)
+seated anc n form span s rs t e f g = rw e (fresh-state anc n form span rs zero_message t _ f refl g refl)
 
 pub empty_ranks : (s : State) → s ≡ empty_state → s.group.ranks ≡ replicate 64 zero_rank
 unfolding empty_state
